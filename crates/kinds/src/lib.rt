@@ -1,0 +1,33 @@
+// Kinds of peers, keys and subscribers: what orders them and how each is written in bytes.
+mod bytes32;
+mod digest;
+mod forms;
+mod numbers;
+mod ordered;
+mod pair;
+mod public_key;
+mod storable;
+
+pub use bytes32::Bytes32;
+pub use bytes32::Bytes32Ordered;
+pub use bytes32::Bytes32Storable;
+pub use digest::Digest;
+pub use digest::DigestOrdered;
+pub use digest::DigestStorable;
+pub use forms::u16_bytes;
+pub use forms::u32_bytes;
+pub use forms::u64_bytes;
+pub use numbers::Seat;
+pub use numbers::SeatOrdered;
+pub use numbers::SeatStorable;
+pub use numbers::Station;
+pub use numbers::StationOrdered;
+pub use numbers::StationStorable;
+pub use ordered::Ordered;
+pub use pair::Pair;
+pub use pair::PairClone;
+pub use pair::PairOrdered;
+pub use public_key::PublicKey;
+pub use public_key::PublicKeyOrdered;
+pub use public_key::PublicKeyStorable;
+pub use storable::Storable;

@@ -1,0 +1,16 @@
+// Worked cases and examples of every layer.
+ghost use Rattle.samples.specs.Cases.{Cases};
+
+#[cfg(test)]
+mod draws;
+#[cfg(test)]
+mod orders;
+#[cfg(test)]
+mod ratings;
+
+// The worked cases of the rules hold of the definitions.
+pub fn cases_stand() -> u8
+    ensures { λ _. ⌜ Cases ⌝ }
+{
+    0
+}
