@@ -1,0 +1,5 @@
+pub mod Meaning
+pub mod Frames
+pub mod Boxes
+pub mod Lanes
+pub mod LaneCalls
