@@ -1,0 +1,4 @@
+pub mod Stages
+pub mod Queues
+pub mod Requests
+pub mod Keys

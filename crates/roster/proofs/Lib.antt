@@ -1,0 +1,4 @@
+pub mod Joins
+pub mod Shares
+pub mod Records
+pub mod Laws

@@ -1,0 +1,4 @@
+pub mod Bounds
+pub mod Weights
+pub mod Peers
+pub mod Rosters

@@ -1,0 +1,12 @@
+pub mod Steps
+pub mod Walks
+pub mod Searches
+pub mod Edits
+pub mod WalkLaws
+pub mod Halving
+pub mod Sweeps
+pub mod Lawfuls
+pub mod Laws
+pub mod Finds
+pub mod Room
+pub mod Orders

@@ -1,0 +1,4 @@
+pub mod Targets
+pub mod Slips
+pub mod Lives
+pub mod Made

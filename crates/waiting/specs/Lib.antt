@@ -1,0 +1,4 @@
+pub mod Waits
+pub mod Groups
+pub mod News
+pub mod Made
