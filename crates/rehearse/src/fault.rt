@@ -4,10 +4,11 @@ use std::alloc::Global;
 use std::alloc::Refused;
 use std::error::AnyError;
 
-// A line that is not understood, with what was expected in its place; or want of memory.
+// A line that is not understood, with what was expected in its place; a call that is not there yet; or want of memory.
 #[derive(Clone, Copy)]
 pub(crate) enum Fault {
     Expected(&'static str),
+    NotYet,
     Memory,
 }
 
@@ -28,6 +29,7 @@ impl Fault {
     pub(crate) fn at(self, heap: Global, number: u64) -> AnyError {
         let text = match self {
             Fault::Expected(expected) => format!(heap, "line {number}: expected {expected}"),
+            Fault::NotYet => format!(heap, "line {number}: this call is not there yet"),
             Fault::Memory => format!(heap, "line {number}: no memory is left"),
         };
         match text {

@@ -1,4 +1,4 @@
-// The roster of a house: who is on it, who is blocked, and what each weighs.
+// A house: its roster, its blocked list, its link and its draw source.
 ghost use mathlib.Core.Path.{_≡_};
 ghost use mathlib.Core.Bool.{true};
 ghost use Prim.Native.Nat.{_^_, _<_};
@@ -6,67 +6,45 @@ ghost use Rattle.draw.specs.Rows.{heft};
 use crate::fault::Fault;
 use crate::fault::FaultFromAllocError;
 use crate::fault::FaultFromRefused;
+use crate::make::Make;
 use crate::rated::Rated;
 use crate::source::CountedDrawSource;
 use crate::source::Source;
 use crate::term::Term;
-use crate::term::show_list;
 use crate::term::show_number;
+use crate::wired::Reply;
+use crate::wired::Wired;
 use draw::DrawSource;
 use draw::Share;
 use draw::SuppliedDrawSource;
 use draw::XorshiftDrawSource;
 use draw::order_of;
 use kinds::Ordered;
+use link::Lane;
+use roster::Participants;
+use roster::PeerRow;
+use roster::PeerRowClone;
+use roster::PeerRowRow;
 use score::Rating;
 use std::alloc::AllocError;
 use std::alloc::Global;
-use std::cmp::Ordering;
+use tables::Only;
+use tables::OnlyRow;
+use tables::Table;
+use tables::TableError;
+use tables::fits_table;
 
-#[derive(Clone, Copy)]
-struct Member<P, R> {
-    peer: P,
-    rating: R,
-}
+// Rows at most of a blocked list.
+const MOST_BLOCKED: usize = 1_024;
 
 #[derive(Drop)]
-pub(crate) struct House<P: Ordered, R: Rating> {
+pub(crate) struct House<P: Wired, R: Rated> {
     engine: u32,
-    most: [u64; 2],
     me: Option<P>,
-    roster: Vec<Member<P, R>>,
-    blocked: Vec<P>,
-}
-
-// Whether a list is in order, has no repeat and is not longer than its table.
-fn in_order<P: Ordered>(list: &[P], most: u64) -> bool {
-    if list.len() as u64 > most {
-        return false;
-    }
-    for pair in list.windows(2) {
-        if !matches!(pair[0].compare(&pair[1]), Ordering::Less) {
-            return false;
-        }
-    }
-    true
-}
-
-fn has<P: Ordered>(list: &[P], peer: P) -> bool {
-    for one in list {
-        if one.compare(&peer).is_eq() {
-            return true;
-        }
-    }
-    false
-}
-
-fn find<P: Ordered, R: Rating>(roster: &[Member<P, R>], peer: P) -> Option<usize> {
-    for (i, member) in roster.iter().enumerate() {
-        if member.peer.compare(&peer).is_eq() {
-            return Some(i);
-        }
-    }
-    None
+    roster: Participants<P, R>,
+    blocked: Table<Only<P>>,
+    link: P::Link,
+    source: Source,
 }
 
 // Whether all weights together fit 64 bits.
@@ -96,133 +74,148 @@ fn places_of<D: DrawSource>(
     Ok(order_of(heap, shares, source, retries)?)
 }
 
-impl<P: Term, R: Rated> House<P, R> {
-    pub(crate) fn new(heap: Global, engine: u32, most: [u64; 2], me: Option<P>) -> House<P, R> {
-        House {
-            engine,
-            most,
+fn made<T>(table: Result<T, TableError>) -> Result<T, Fault> {
+    match table {
+        Ok(table) => Ok(table),
+        Err(TableError::Rows) => Err(Fault::Expected("rows within their bounds")),
+        Err(TableError::Memory) => Err(Fault::Memory),
+    }
+}
+
+fn own<P: Term>(text: &str) -> Result<Option<P>, Fault> {
+    if text == "-" {
+        return Ok(None);
+    }
+    let me = P::read(text).ok_or(Fault::Expected("me= and a station, or me=-"))?;
+    Ok(Some(me))
+}
+
+impl<P: Wired, R: Rated> House<P, R> {
+    // A new house, as a good make line says.
+    pub(crate) fn new(heap: Global, make: &Make<'_>, source: Source) -> Result<House<P, R>, Fault> {
+        let Some(wire) = make.link else {
+            return Err(Fault::Expected("link="));
+        };
+        let me = own(make.me)?;
+        let link = P::open(heap, wire)?;
+        let roster = made(Participants::new(heap, make.engine, make.rows[0] as usize))?;
+        let blocked = made(Table::new(heap, make.engine, make.rows[1] as usize, MOST_BLOCKED))?;
+        Ok(House {
+            engine: make.engine,
             me,
-            roster: Vec::new(heap),
-            blocked: Vec::new(heap),
-        }
+            roster,
+            blocked,
+            link,
+            source,
+        })
     }
 
     pub(crate) fn engine(&self) -> u32 {
         self.engine
     }
 
-    // Makes the list the roster. Old peers keep their rating, new ones are fresh. False for a list out of order, with a
-    // repeat or longer than its table.
-    pub(crate) fn reconcile(&mut self, heap: Global, list: &[P]) -> Result<bool, Fault> {
-        if !in_order(list, self.most[0]) {
-            return Ok(false);
-        }
-        let mut roster = Vec::new(heap);
-        for peer in list {
-            let rating = match find(self.roster.as_slice(), *peer) {
-                Some(i) if i < self.roster.len() => self.roster[i].rating,
-                _ => R::fresh(),
-            };
-            roster.push(Member {
-                peer: *peer,
-                rating,
-            })?;
-        }
-        self.roster = roster;
-        Ok(true)
-    }
-
-    // Replaces the blocked list; false as for a roster.
-    pub(crate) fn set_blocked(&mut self, list: Vec<P>) -> bool {
-        if !in_order(list.as_slice(), self.most[1]) {
+    // Makes the list the roster. False for a list out of order, with a repeat or longer than its table.
+    pub(crate) fn reconcile(&mut self, list: &[P]) -> bool {
+        if !fits_table(list, self.roster.most()) {
             return false;
         }
-        self.blocked = list;
-        true
+        self.roster.reconcile(list, self.me, &self.blocked)
+    }
+
+    // Replaces the blocked list and weighs the roster anew; false as for a roster.
+    pub(crate) fn set_blocked(&mut self, list: &[P]) -> bool {
+        if !fits_table(list, self.blocked.most()) {
+            return false;
+        }
+        let filled = self.blocked.fill(list);
+        self.roster.weigh(self.me, &self.blocked);
+        filled
     }
 
     // Records a reply; nothing happens if the peer is not on the roster.
     pub(crate) fn record(&mut self, peer: P, elapsed: u64, size: u64) {
-        let Some(i) = find(self.roster.as_slice(), peer) else {
-            return;
-        };
-        if i < self.roster.len() {
-            let mut rating = self.roster[i].rating;
-            rating.record(elapsed, size);
-            self.roster[i] = Member { peer, rating };
-        }
-    }
-
-    // Own and blocked peers weigh 0, all others what their rating weighs.
-    fn weight_of(&self, member: &Member<P, R>) -> u64 {
-        let own = match self.me {
-            Some(me) => me.compare(&member.peer).is_eq(),
-            None => false,
-        };
-        if own || has(self.blocked.as_slice(), member.peer) {
-            0
-        } else {
-            member.rating.weight()
-        }
+        self.roster.record(peer, elapsed, size);
     }
 
     pub(crate) fn weight(&self, peer: P) -> Option<u64> {
-        for member in self.roster.as_slice() {
-            if member.peer.compare(&peer).is_eq() {
-                return Some(self.weight_of(member));
-            }
-        }
-        None
+        self.roster.weight(peer)
     }
 
-    fn shares(&self, heap: Global) -> Result<Vec<Share>, Fault> {
-        let mut shares = Vec::new(heap);
-        for member in self.roster.as_slice() {
-            shares.push(Share {
-                weight: self.weight_of(member),
-                aside: false,
-            })?;
-        }
-        Ok(shares)
+    pub(crate) fn check(&self, time: u64, peer: P) -> Option<u64> {
+        P::check(&self.link, peer, time)
     }
 
-    // The order in which the stations would be asked after a number of retries, drawn from the source.
-    pub(crate) fn order(
-        &self,
-        heap: Global,
-        source: &mut Source,
-        retries: u32,
-    ) -> Result<Vec<P>, Fault> {
-        let mut shares = self.shares(heap)?;
+    pub(crate) fn send(&mut self, time: u64, id: u64, peer: P, key: P::Key) -> Reply {
+        P::send(&mut self.link, time, id, peer, key)
+    }
+
+    pub(crate) fn set_lane(&mut self, station: u32, lane: Lane) -> bool {
+        P::set_lane(&mut self.link, station, lane)
+    }
+
+    // The places of the roster in the order in which they would be asked after a number of retries.
+    fn places(&mut self, heap: Global, retries: u32) -> Result<Vec<usize>, Fault> {
+        let mut shares = self.roster.shares.clone()?;
         let rows = shares.as_mut_slice();
-        let places = match source {
-            Source::List(words) => places_of(heap, rows, words, retries)?,
-            Source::Xorshift(words) => places_of(heap, rows, words, retries)?,
-        };
+        match &mut self.source {
+            Source::List(words) => places_of(heap, rows, words, retries),
+            Source::Xorshift(words) => places_of(heap, rows, words, retries),
+        }
+    }
+
+    // The order in which the stations would be asked.
+    pub(crate) fn order(&mut self, heap: Global, retries: u32) -> Result<Vec<P>, Fault> {
+        let places = self.places(heap, retries)?;
         let mut peers = Vec::new(heap);
         for place in places.as_slice() {
-            if let Some(member) = self.roster.get(*place) {
-                peers.push(member.peer)?;
+            if let Some(row) = self.roster.rows.get(*place) {
+                peers.push(row.peer)?;
             }
         }
         Ok(peers)
     }
 
-    // The lines of a trace that show the roster and the blocked list.
+    fn show_row(
+        &self,
+        heap: Global,
+        row: &PeerRow<P, R>,
+        out: &mut String,
+    ) -> Result<(), AllocError> {
+        out.push_str(" ")?;
+        row.peer.show(heap, out)?;
+        out.push_str("=")?;
+        show_number(heap, self.roster.weight(row.peer).unwrap_or(0), out)?;
+        row.rating.show(heap, out)
+    }
+
+    fn show_blocked(&self, heap: Global, out: &mut String) -> Result<(), AllocError> {
+        out.push_str("blocked ")?;
+        if self.blocked.len() == 0 {
+            out.push_str("-")?;
+        }
+        for (i, row) in self.blocked.rows().iter().enumerate() {
+            if i > 0 {
+                out.push_str(",")?;
+            }
+            row.key.show(heap, out)?;
+        }
+        out.push_str("\n")
+    }
+
+    // The lines of a trace that show what the house holds.
     pub(crate) fn show(&self, heap: Global, out: &mut String) -> Result<(), AllocError> {
         out.push_str("roster")?;
-        if self.roster.is_empty() {
+        if self.roster.len() == 0 {
             out.push_str(" -")?;
         }
-        for member in self.roster.as_slice() {
-            out.push_str(" ")?;
-            member.peer.show(heap, out)?;
-            out.push_str("=")?;
-            show_number(heap, self.weight_of(member), out)?;
-            member.rating.show(heap, out)?;
+        for row in self.roster.rows.as_slice() {
+            self.show_row(heap, row, out)?;
         }
-        out.push_str("\nblocked ")?;
-        show_list(heap, self.blocked.as_slice(), out)?;
-        out.push_str("\n")
+        out.push_str("\n")?;
+        self.show_blocked(heap, out)?;
+        out.push_str("draws words=")?;
+        show_number(heap, self.source.taken(), out)?;
+        out.push_str("\n")?;
+        P::show_link(&self.link, heap, out)
     }
 }

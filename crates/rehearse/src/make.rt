@@ -111,6 +111,26 @@ fn rate_of(text: &str) -> Option<Rate> {
     }
 }
 
+// What stands before the `=` of a word.
+fn name_of<'a>(word: &'a str) -> &'a str {
+    match word.split_once('=') {
+        Some((name, _)) => name,
+        None => word,
+    }
+}
+
+// Whether two words have the same name.
+fn repeated(words: &[&str]) -> bool {
+    for (i, word) in words.iter().enumerate() {
+        for other in words.iter().skip(i + 1) {
+            if name_of(*word) == name_of(*other) {
+                return true;
+            }
+        }
+    }
+    false
+}
+
 impl<'a> Make<'a> {
     fn blank() -> Make<'a> {
         Make {
@@ -159,6 +179,9 @@ impl<'a> Make<'a> {
     // What the words after `make` say.
     pub(crate) fn read(heap: Global, words: &[&'a str]) -> Result<Make<'a>, Fault> {
         let mut make = Make::blank();
+        if repeated(words) {
+            return Err(Fault::Expected("each name once after make"));
+        }
         for word in words {
             make.set(heap, *word)?;
         }

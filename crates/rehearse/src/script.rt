@@ -4,13 +4,16 @@ use crate::fault::FaultFromAllocError;
 use crate::fault::FaultFromRefused;
 use crate::house::House;
 use crate::rated::Rated;
-use crate::source::Source;
 use crate::term::Term;
 use crate::term::list;
 use crate::term::number_or;
 use crate::term::show_list;
 use crate::term::show_number;
 use crate::term::small_number;
+use crate::watch::Watch;
+use crate::wired::Reply;
+use crate::wired::Wired;
+use link::Lane;
 use std::alloc::AllocError;
 use std::alloc::Global;
 
@@ -23,6 +26,13 @@ pub(crate) enum Answer<P> {
     Refused(u8),
     Order(Vec<P>),
     Number(Option<u64>),
+    Checked(Option<u64>),
+    Sent(Reply),
+}
+
+fn show_wait(heap: Global, until: u64, out: &mut String) -> Result<(), AllocError> {
+    out.push_str("wait ")?;
+    show_number(heap, until, out)
 }
 
 impl<P: Term> Answer<P> {
@@ -40,6 +50,13 @@ impl<P: Term> Answer<P> {
             }
             Answer::Number(Some(n)) => show_number(heap, *n, out)?,
             Answer::Number(None) => out.push_str("-")?,
+            Answer::Checked(wait) => match wait {
+                Some(until) => show_wait(heap, *until, out)?,
+                None => out.push_str("pass")?,
+            },
+            Answer::Sent(Reply::Accepted) => out.push_str("accepted")?,
+            Answer::Sent(Reply::Closed) => out.push_str("closed")?,
+            Answer::Sent(Reply::Wait(until)) => show_wait(heap, *until, out)?,
         }
         out.push_str("\n")
     }
@@ -108,8 +125,9 @@ fn list_call<P: Term>(heap: Global, engine: u32, words: &[&str]) -> Result<ListC
     })
 }
 
-fn reconcile<P: Term, R: Rated>(
+fn reconcile<P: Wired, R: Rated>(
     heap: Global,
+    watch: &mut Watch<'_>,
     house: &mut House<P, R>,
     words: &[&str],
 ) -> Result<Answer<P>, Fault> {
@@ -117,15 +135,19 @@ fn reconcile<P: Term, R: Rated>(
     if let Some(number) = call.refusal {
         return Ok(Answer::Refused(number));
     }
-    if house.reconcile(heap, call.peers.as_slice())? {
+    let began = watch.start();
+    let done = house.reconcile(call.peers.as_slice());
+    watch.stop(began);
+    if done {
         Ok(Answer::Done)
     } else {
         Ok(Answer::Refused(5))
     }
 }
 
-fn set_blocked<P: Term, R: Rated>(
+fn set_blocked<P: Wired, R: Rated>(
     heap: Global,
+    watch: &mut Watch<'_>,
     house: &mut House<P, R>,
     words: &[&str],
 ) -> Result<Answer<P>, Fault> {
@@ -133,14 +155,17 @@ fn set_blocked<P: Term, R: Rated>(
     if let Some(number) = call.refusal {
         return Ok(Answer::Refused(number));
     }
-    if house.set_blocked(call.peers) {
+    let began = watch.start();
+    let done = house.set_blocked(call.peers.as_slice());
+    watch.stop(began);
+    if done {
         Ok(Answer::Done)
     } else {
         Ok(Answer::Refused(5))
     }
 }
 
-fn record<P: Term, R: Rated>(house: &mut House<P, R>, words: &[&str]) -> Result<Answer<P>, Fault> {
+fn record<P: Wired, R: Rated>(house: &mut House<P, R>, words: &[&str]) -> Result<Answer<P>, Fault> {
     let [peer, size, elapsed] = words else {
         return Err(Fault::Expected("record PEER LENGTH ELAPSED"));
     };
@@ -151,20 +176,59 @@ fn record<P: Term, R: Rated>(house: &mut House<P, R>, words: &[&str]) -> Result<
     Ok(Answer::Done)
 }
 
-fn order<P: Term, R: Rated>(
+fn order<P: Wired, R: Rated>(
     heap: Global,
-    house: &House<P, R>,
-    source: &mut Source,
+    house: &mut House<P, R>,
     words: &[&str],
 ) -> Result<Answer<P>, Fault> {
     let [retries] = words else {
         return Err(Fault::Expected("order RETRIES"));
     };
     let retries = small_number(retries).ok_or(Fault::Expected("a 32-bit number of retries"))?;
-    Ok(Answer::Order(house.order(heap, source, retries)?))
+    Ok(Answer::Order(house.order(heap, retries)?))
 }
 
-fn ask<P: Term, R: Rated>(house: &House<P, R>, words: &[&str]) -> Result<Answer<P>, Fault> {
+fn check<P: Wired, R: Rated>(house: &House<P, R>, words: &[&str]) -> Result<Answer<P>, Fault> {
+    let [time, peer] = words else {
+        return Err(Fault::Expected("check TIME PEER"));
+    };
+    let time = number_or(time, "a time in nanoseconds")?;
+    Ok(Answer::Checked(house.check(time, peer_or(peer)?)))
+}
+
+fn send<P: Wired, R: Rated>(house: &mut House<P, R>, words: &[&str]) -> Result<Answer<P>, Fault> {
+    let [time, id, peer, key] = words else {
+        return Err(Fault::Expected("send TIME ID PEER KEY"));
+    };
+    let time = number_or(time, "a time in nanoseconds")?;
+    let id = number_or(id, "a 64-bit id")?;
+    let peer = peer_or(peer)?;
+    let key = P::Key::read(key).ok_or(Fault::Expected(
+        "a key, as 77:12, or 64 hexadecimal digits",
+    ))?;
+    Ok(Answer::Sent(house.send(time, id, peer, key)))
+}
+
+fn lane_of(text: &str) -> Result<Lane, Fault> {
+    if text == "closed" {
+        return Ok(Lane::Closed);
+    }
+    Ok(Lane::Free(number_or(text, "closed, or a time below 2^63")?))
+}
+
+fn lane<P: Wired, R: Rated>(house: &mut House<P, R>, words: &[&str]) -> Result<Answer<P>, Fault> {
+    let [station, state] = words else {
+        return Err(Fault::Expected("lane STATION closed, or lane STATION TIME"));
+    };
+    let station = small_number(station).ok_or(Fault::Expected("a station from 0 to 255"))?;
+    if house.set_lane(station, lane_of(state)?) {
+        Ok(Answer::Done)
+    } else {
+        Err(Fault::Expected("a lane link, a station from 0 to 255, and a time below 2^63"))
+    }
+}
+
+fn ask<P: Wired, R: Rated>(house: &House<P, R>, words: &[&str]) -> Result<Answer<P>, Fault> {
     let ["weight", peer] = words else {
         return Err(Fault::Expected("ask weight PEER"));
     };
@@ -174,7 +238,8 @@ fn ask<P: Term, R: Rated>(house: &House<P, R>, words: &[&str]) -> Result<Answer<
 // The calls that a script may name, and those among them that are not there yet.
 pub(crate) fn known(name: &str) -> Result<(), Fault> {
     match name {
-        "reconcile" | "set_blocked" | "record" | "order" | "ask" => Ok(()),
+        "reconcile" | "set_blocked" | "record" | "order" | "check" | "send" | "lane" | "ask" =>
+            Ok(()),
         "want"
         | "add_targets"
         | "clear_targets"
@@ -184,26 +249,30 @@ pub(crate) fn known(name: &str) -> Result<(), Fault> {
         | "missing"
         | "verdict"
         | "retain"
-        | "lane"
         | "setid"
-        | "setretries" => Err(Fault::Expected("another call: this one is not there yet")),
-        _ => Err(Fault::Expected("make, reconcile, set_blocked, record, order or ask")),
+        | "setretries" => Err(Fault::NotYet),
+        _ => Err(Fault::Expected(
+            "make, reconcile, set_blocked, record, order, check, send, lane or ask",
+        )),
     }
 }
 
 // Obeys one line, whose first word is known.
-pub(crate) fn obey<P: Term, R: Rated>(
+pub(crate) fn obey<P: Wired, R: Rated>(
     heap: Global,
+    watch: &mut Watch<'_>,
     house: &mut House<P, R>,
-    source: &mut Source,
     name: &str,
     words: &[&str],
 ) -> Result<Answer<P>, Fault> {
     match name {
-        "reconcile" => reconcile(heap, house, words),
-        "set_blocked" => set_blocked(heap, house, words),
+        "reconcile" => reconcile(heap, watch, house, words),
+        "set_blocked" => set_blocked(heap, watch, house, words),
         "record" => record(house, words),
-        "order" => order(heap, house, source, words),
+        "order" => order(heap, house, words),
+        "check" => check(house, words),
+        "send" => send(house, words),
+        "lane" => lane(house, words),
         _ => ask(house, words),
     }
 }

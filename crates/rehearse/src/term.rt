@@ -3,9 +3,13 @@ use crate::fault::Fault;
 use crate::fault::FaultFromAllocError;
 use crate::fault::FaultFromRefused;
 use kinds::Bytes32;
+use kinds::Digest;
+use kinds::DigestOrdered;
 use kinds::Ordered;
 use kinds::PublicKey;
 use kinds::PublicKeyOrdered;
+use kinds::Seat;
+use kinds::SeatOrdered;
 use kinds::Station;
 use kinds::StationOrdered;
 use std::alloc::AllocError;
@@ -93,6 +97,36 @@ pub(crate) impl Term for PublicKey as PublicKeyTerm {
     fn read(text: &str) -> Option<PublicKey> {
         match bytes32(text) {
             Some(bytes) => Some(PublicKey(bytes)),
+            None => None,
+        }
+    }
+
+    fn show(&self, heap: Global, out: &mut String) -> Result<(), AllocError> {
+        show_bytes32(heap, self.0, out)
+    }
+}
+
+pub(crate) impl Term for Seat as SeatTerm {
+    fn read(text: &str) -> Option<Seat> {
+        let (performance, seat) = text.split_once(':')?;
+        let seat = small_number(seat)?;
+        Some(Seat {
+            performance: small_number(performance)?,
+            seat: u16::try_from(seat).ok()?,
+        })
+    }
+
+    fn show(&self, heap: Global, out: &mut String) -> Result<(), AllocError> {
+        show_number(heap, u64::from(self.performance), out)?;
+        out.push_str(":")?;
+        show_number(heap, u64::from(self.seat), out)
+    }
+}
+
+pub(crate) impl Term for Digest as DigestTerm {
+    fn read(text: &str) -> Option<Digest> {
+        match bytes32(text) {
+            Some(bytes) => Some(Digest(bytes)),
             None => None,
         }
     }

@@ -4,9 +4,13 @@ ghost use Rattle.samples.specs.Cases.{Cases};
 #[cfg(test)]
 mod draws;
 #[cfg(test)]
+mod links;
+#[cfg(test)]
 mod orders;
 #[cfg(test)]
 mod ratings;
+#[cfg(test)]
+mod tables;
 
 // The worked cases of the rules hold of the definitions.
 pub fn cases_stand() -> u8
