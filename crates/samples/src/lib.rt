@@ -4,6 +4,8 @@ ghost use Rattle.samples.specs.Cases.{Cases};
 #[cfg(test)]
 mod draws;
 #[cfg(test)]
+mod fetches;
+#[cfg(test)]
 mod links;
 #[cfg(test)]
 mod orders;

@@ -1,0 +1,10 @@
+pub mod Frees
+pub mod Steps
+pub mod Outs
+pub mod Firsts
+pub mod Leasts
+pub mod Wholes
+pub mod Listings
+pub mod Queues
+pub mod Fairs
+pub mod Counts
