@@ -110,10 +110,13 @@ module _ {P V : Type 0} (p : Order P) (o : Lawful (p .order)) (v : Rate V) where
     unfolding shares-for
     weighs-each own [] i r e = let z : _≡_ {A = ℕ} 0 1 = cc in absurd (omega arith)
     weighs-each own (q ∷ qs) zero r e =
-        let d : q ≡ r = cc in
-        (share-for p v own blocked r, ap (λ (x : PeerRow P V). Some (share-for p v own blocked x)) d, refl,
-        (λ b. cond-true (is-out p own blocked (r .peer)) 0 (v .weighs (r .rating)) (of-barred own (r .peer) b)),
-        λ n. ⊎-elim (λ t. absurd (n (barred-of own (r .peer) t))) (λ t. cond-false (is-out p own blocked (r .peer)) 0 (v .weighs (r .rating)) t) (cases-bool (is-out p own blocked (r .peer))))
+        let d : q ≡ r = cc in (
+          share-for p v own blocked r,
+          ap (λ (x : PeerRow P V). Some (share-for p v own blocked x)) d,
+          refl,
+          (λ b. cond-true (is-out p own blocked (r .peer)) 0 (v .weighs (r .rating)) (of-barred own (r .peer) b)),
+          λ n. ⊎-elim (λ t. absurd (n (barred-of own (r .peer) t))) (λ t. cond-false (is-out p own blocked (r .peer)) 0 (v .weighs (r .rating)) t) (cases-bool (is-out p own blocked (r .peer))),
+        )
     weighs-each own (q ∷ qs) (suc i) r e = weighs-each own qs i r e
 
   -- ---- the roster has the peers of the list
@@ -173,8 +176,9 @@ module _ {P V : Type 0} (p : Order P) (o : Lawful (p .order)) (v : Rate V) where
         cond-true (leb (length list) (f .blocked .most)) (with-rows (f .blocked) (only-rows list)) (f .blocked) b in
         let e : block-step p v list f ≡ cleared (weighed p v (with-blocked (with-rows (f .blocked) (only-rows list)) f)) =
         cond-true (leb (length list) (f .blocked .most)) (cleared (weighed p v (with-blocked (fill-with (only-rows list) (length list) (f .blocked)) f))) f b
-        ∙ ap (λ (x : Tab (Only P)). cleared (weighed p v (with-blocked x f))) full in
-        (ap (λ (x : Fet P V K). x .blocked .rows) e,
-        subst (λ (x : Fet P V K). Weighs v (f .own) (only-rows list) (x .roster)) (sym e) (weighs-each (only-rows list) (only-up list ord) (f .own) (f .roster .peers .rows)));
+        ∙ ap (λ (x : Tab (Only P)). cleared (weighed p v (with-blocked x f))) full in (
+          ap (λ (x : Fet P V K). x .blocked .rows) e,
+          subst (λ (x : Fet P V K). Weighs v (f .own) (only-rows list) (x .roster)) (sym e) (weighs-each (only-rows list) (only-up list ord) (f .own) (f .roster .peers .rows)),
+        );
     one-row = λ f peer elapsed size up j r e n. others peer elapsed size (f .roster .peers .rows) (f .roster .shares) up j r e n;
   }

@@ -15,8 +15,8 @@ use live::LiveKeys;
 use live::Stage;
 use live::StageClone;
 use score::Rating;
-use waiting::Subscribers;
 use trackers::retain_waited;
+use waiting::Subscribers;
 
 // The event that queues a key again: its request comes back, or its delivery is rejected.
 fn retry_event<K: Ordered, P: Ordered>(row: Option<KeyRow<K, P>>, deadline: u64) -> Event<P>
