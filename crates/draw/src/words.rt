@@ -2,7 +2,7 @@
 ghost use mathlib.Core.Path.{_≡_};
 ghost use Prim.Native.Nat.{ℕ, _^_, _<_};
 ghost use Rattle.std.specs.Of.Vec.{vec-items};
-ghost use Rattle.draw.specs.Words.{later, drawn, rest, listed, states, seeded};
+ghost use Rattle.draw.specs.Words.{later, drawn, rest, listed, stepped, states, seeded};
 
 pub trait DrawSource {
     // the words ahead
@@ -53,6 +53,17 @@ pub impl DrawSource for Supplied as SuppliedDrawSource {
     }
 }
 
+// One step of Marsaglia's generator.
+fn next_state(state: u64) -> u64
+    ensures { λ r. ⌜ r ≡ stepped state ⌝ }
+{
+    let mut s = state;
+    s ^= s << 13;
+    s ^= s >> 7;
+    s ^= s << 17;
+    s
+}
+
 // Marsaglia's xorshift: each word is the state after a step.
 #[derive(Drop)]
 pub struct Xorshift {
@@ -75,11 +86,7 @@ pub impl DrawSource for Xorshift as XorshiftDrawSource {
     ghost ahead = { λ s. states (s .state) };
 
     fn word(&mut self) -> u64 {
-        let mut s = self.state;
-        s ^= s << 13;
-        s ^= s >> 7;
-        s ^= s << 17;
-        self.state = s;
-        s
+        self.state = next_state(self.state);
+        self.state
     }
 }
