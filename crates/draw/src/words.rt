@@ -25,6 +25,20 @@ pub(crate) fn below<D: DrawSource>(source: &mut D, n: u64) -> u64
     source.word() % n
 }
 
+// The word at a place of a list, or zero past its end.
+fn word_at(words: &[u64], at: usize) -> u64
+    ensures { λ r. ⌜ r ≡ listed (now (words .entry)) at 0 ⌝ }
+{
+    if at < words.len() { words[at] } else { 0 }
+}
+
+// The place of the next word; past the end it stays, since only zeros follow.
+fn place_after(words: &[u64], at: usize) -> usize
+    ensures { λ r. ⌜ listed (now (words .entry)) r ≡ later (listed (now (words .entry)) at) ⌝ }
+{
+    if at < words.len() { at + 1 } else { at }
+}
+
 // A supplied list of words, then zeros for ever.
 #[derive(Drop)]
 pub struct Supplied {
@@ -44,12 +58,9 @@ pub impl DrawSource for Supplied as SuppliedDrawSource {
     ghost ahead = { λ s. listed (vec-items (s .words)) (s .at) };
 
     fn word(&mut self) -> u64 {
-        if self.at >= self.words.len() {
-            return 0;
-        }
-        let w = self.words[self.at];
-        self.at += 1;
-        w
+        let word = word_at(self.words.as_slice(), self.at);
+        self.at = place_after(self.words.as_slice(), self.at);
+        word
     }
 }
 
