@@ -5,10 +5,8 @@ use mathlib.Core.Bool.{Bool, true, false, cond}
 use mathlib.Core.List.{List, [], _∷_, map}
 use mathlib.Core.Logic.{inl, inr, ⊎-elim}
 use native.Mathlib.Omega.{arith}
-use native.Mathlib.Nat.{suc-mul}
 use lib.Dec.{eqb, ltb}
 use lib.ListN.{length, getD, set, take}
-use Rattle.std.specs.shelf.Lists.{All}
 use Rattle.std.proofs.shelf.Tests.{eq-eqb, cases-lt, cases-bool, ltb-true, ltb-false, eqb-true, eqb-false, cond-both, cond-true, cond-false, lt-ltb, le-ltb, ne-eqb}
 use Rattle.std.specs.declared.option.Option.the-variants.{Some, None}
 use Rattle.draw.specs.declared.rows.Share.{Share}
@@ -89,13 +87,6 @@ heft-back (s ∷ ss) = ap (λ n. s .weight + n) (heft-back ss)
 -- rows that are the same once all are back weigh the same
 pub heft-same : (xs ys : List Share) → allBack xs ≡ allBack ys → heft xs ≡ heft ys
 heft-same xs ys e = sym (heft-back xs) ∙ ap heft e ∙ heft-back ys
-
-pub heft-le : (m : ℕ) (xs : List Share) → All (λ s. s .weight ≤ m) xs → heft xs ≤ length xs * m
-heft-le m [] a = omega arith
-heft-le m (s ∷ ss) a = simp suc-mul (omega (arith, a .0, heft-le m ss (a .1)))
-
-pub heft-fits : (xs : List Share) → length xs ≤ 1024 → All (λ s. s .weight ≤ 1048576000000001) xs → heft xs < 2 ^ 64
-heft-fits xs n a = omega (arith, heft-le 1048576000000001 xs a)
 
 -- one step of the search for the row: it ends here, or goes on
 pub reach-hit : (by : By) (sum : ℕ) (s : Share) (ss : List Share) (x : ℕ) → x < sum + part by s → reach by sum (s ∷ ss) x ≡ 0
