@@ -1,11 +1,13 @@
 #!/bin/sh
 # Tries the programs that the compiler must refuse, one for each crates/NAME/refused/*.edit, in a copy of the repository.
+# With a word, as `refused.sh edits`, those of crates/NAME/edits/*.edit: further must-fail edits, which the gate leaves out
+# to save time.
 #
 # An edit is a file of lines:
 #   file: PATH     the file of the crate that it changes
 #   old: TEXT      what stands there, exactly once; several such lines are lines that follow each other
 #   new: TEXT      what is put in its place, likewise
-#   error: NAME    the first error that the compiler must name
+#   error: NAME    the first error that the compiler must name; without this line the prover must refuse it
 #
 # Prints a line for each edit. Exit status: 0 if each was refused with its error, 1 if not, 2 if nothing could be tried.
 set -u
@@ -53,6 +55,11 @@ try() { # EDIT
     cp "$copy/edited" "$copy/$file"
     (cd "$copy" && RT_CUT=0 rt dev "$crate") >"$copy/said" 2>&1
     cp "$root/$file" "$copy/$file"
+    if [ -z "$want" ]; then
+        grep -q 'logic=not-proved' "$copy/said" && { echo "refused: $name: by the prover"; return 0; }
+        echo "NOT REFUSED: $name: $(tail -n 1 "$copy/said" | cut -c1-200)"
+        return 1
+    fi
     first=$(grep -m 1 -o 'error\[[^]]*\].*' "$copy/said" | cut -c1-120)
     case $first in
     "error[$want]"*) echo "refused: $name: $first" ;;
@@ -63,10 +70,10 @@ try() { # EDIT
 
 status=0
 tried=0
-for edit in "$root"/crates/*/refused/*.edit; do
+for edit in "$root"/crates/*/"${1:-refused}"/*.edit; do
     [ -f "$edit" ] || continue
     tried=$((tried + 1))
     try "$edit" || status=1
 done
-[ "$tried" -gt 0 ] || { echo "no edit to try under $root/crates/*/refused/"; exit 2; }
+[ "$tried" -gt 0 ] || { echo "no edit to try under crates/*/${1:-refused}/"; exit 2; }
 exit $status

@@ -1,5 +1,4 @@
 // A fetcher and its tables.
-ghost use mathlib.Core.Path.{_≡_};
 
 mod asks;
 mod fetch;

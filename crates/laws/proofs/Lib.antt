@@ -1,1 +1,2 @@
 pub mod Weighings
+pub mod Wakings

@@ -1,7 +1,7 @@
 -- Peers weigh what they should.
-use Prim.Native.Nat.{ℕ, zero, suc, _+_, _≤_, _<_}
+use Prim.Native.Nat.{ℕ, zero, suc, _<_}
 use mathlib.Core.Path.{_≡_, refl, sym, ap, subst, _∙_}
-use mathlib.Core.Bool.{Bool, true, false, cond, _||_}
+use mathlib.Core.Bool.{Bool, true, false, _||_}
 use mathlib.Core.List.{List, [], _∷_}
 use mathlib.Core.Logic.{_⊎_, inl, inr, ⊎-elim}
 use native.Mathlib.Omega.{arith}
@@ -16,7 +16,7 @@ use Rattle.std.specs.declared.option.Option.{Option}
 use Rattle.std.specs.declared.option.Option.the-variants.{Some, None}
 use Rattle.std.specs.declared.result.Result.{Result}
 use Rattle.std.specs.declared.result.Result.the-variants.{Ok, Err}
-use Rattle.std.proofs.shelf.Tests.{le-leb, cond-true, cond-false, cases-bool, cases-eq, both-ways}
+use Rattle.std.proofs.shelf.Tests.{le-leb, cond-true, cond-false, cases-bool, both-ways}
 use Rattle.kinds.specs.declared.ordered.Ordered.{Ghosts as Order}
 use Rattle.score.specs.declared.rating.Rating.{Ghosts as Rate}
 use Rattle.draw.specs.declared.rows.Share.{Share}
@@ -31,11 +31,11 @@ use Rattle.tables.proofs.Laws.{lookup-key}
 use Rattle.tables.proofs.Halving.{place-placed}
 use Rattle.roster.specs.declared.row.PeerRow.{PeerRow}
 use Rattle.roster.specs.Weights.{changed-at, reweighed, reweighed-at}
-use Rattle.roster.specs.Peers.{peerOf, is-own, is-blocked, is-out, fresh-row, weight-for, share-for, shares-for, row-for, rows-past, from-peer, joined, rerated, rerated-at, rerated-in, weight-then, weight-at, new-weight}
+use Rattle.roster.specs.Peers.{peerOf, is-own, is-blocked, is-out, fresh-row, share-for, shares-for, row-for, rows-past, from-peer, joined, rerated, rerated-at, rerated-in, weight-then, weight-at, new-weight}
 use Rattle.roster.specs.Rosters.{Roster, with-peers, taken-over}
 use Rattle.model.specs.Fet.{Fet, with-roster, with-blocked}
 use Rattle.model.specs.Calls.{cleared, weighed, reconcile-step, block-step}
-use Rattle.laws.specs.Weights.{Barred, Weighs, PeersAre, OthersStay, WeightsStand}
+use Rattle.laws.specs.Weights.{Barred, Weighs, PeersAre, WeightsStand}
 
 -- ---- lists
 at-of : {X : Type 0} (x d : X) (xs : List X) (j : ℕ) → nth xs j ≡ Some x → (j < length xs) × (getD xs j d ≡ x)

@@ -7,7 +7,7 @@ use mathlib.Core.Logic.{_⊎_}
 use lib.ListN.{length}
 use Rattle.std.specs.Finite.{nth}
 use Rattle.std.specs.declared.option.Option.{Option}
-use Rattle.std.specs.declared.option.Option.the-variants.{Some, None}
+use Rattle.std.specs.declared.option.Option.the-variants.{Some}
 use Rattle.kinds.specs.declared.ordered.Ordered.{Ghosts as Order}
 use Rattle.score.specs.declared.rating.Rating.{Ghosts as Rate}
 use Rattle.draw.specs.declared.rows.Share.{Share}

@@ -1,14 +1,13 @@
 -- A fetch sends the first key that can be sent, and moves no other.
-use Prim.Native.Nat.{ℕ, zero, suc, _+_, _≤_, _<_}
+use Prim.Native.Nat.{ℕ, zero, suc, _<_}
 use mathlib.Core.Path.{_≡_, refl, sym, ap, subst, _∙_}
-use mathlib.Core.Bool.{Bool, true, false, cond}
+use mathlib.Core.Bool.{Bool, true}
 use mathlib.Core.List.{List, [], _∷_}
 use mathlib.Core.Logic.{_⊎_, inl, inr, ⊎-elim}
 use native.Mathlib.Omega.{arith}
 use lib.ListN.{length, getD}
 use Rattle.std.specs.Finite.{nth}
 use Rattle.std.specs.Orderings.{isLt}
-use Rattle.std.specs.declared.cmp.Ordering.the-variants.{Less}
 use Rattle.std.specs.declared.option.Option.{Option}
 use Rattle.std.specs.declared.option.Option.the-variants.{Some, None}
 use Rattle.std.proofs.shelf.Tests.{cases-eq, cases-lt}
@@ -16,7 +15,7 @@ use Rattle.kinds.specs.declared.ordered.Ordered.{Ghosts as Order}
 use Rattle.link.specs.declared.words.Word.{Word}
 use Rattle.link.specs.declared.words.Message.{Message}
 use Rattle.tables.specs.Rows.{Lawful, Ascending, In, lookup, put}
-use Rattle.tables.specs.Tables.{Tab, with-rows, emptied, fits, put-in}
+use Rattle.tables.specs.Tables.{Tab, with-rows, emptied, put-in}
 use Rattle.tables.proofs.Laws.{ascending-none, lookup-none, lookup-key, lookup-put-same, lookup-put-other}
 use Rattle.tables.proofs.WalkLaws.{ascending-less}
 use Rattle.tables.proofs.Finds.{lookup-in, in-lookup}
@@ -27,12 +26,12 @@ use Rattle.live.specs.declared.stage.Stage.{Stage}
 use Rattle.live.specs.declared.stage.Stage.the-variants.{Queued, Out, Judged}
 use Rattle.live.specs.declared.stage.Event.the-variants.{Sent}
 use Rattle.live.specs.Keys.{keyOf, step-at, stepped, put-found}
-use Rattle.live.specs.Queues.{byQueue, turnOf, queue-at, queue-row, earlier, queue-on}
+use Rattle.live.specs.Queues.{byQueue, turnOf, queue-at, queue-row, earlier}
 use Rattle.model.specs.Fet.{Fet}
 use Rattle.model.specs.Laws.{First}
 use Rattle.model.specs.Fetches.{aims, queue, sent-in}
 use Rattle.model.specs.Calls.{row-of}
-use Rattle.model.specs.Sends.{Orderly, out-row, Queues, TakenBy, Sendable, SendsFirst, MovesOne, Fair}
+use Rattle.model.specs.Sends.{Orderly, out-row, Queues, SendsFirst, MovesOne}
 use Rattle.model.proofs.Queues.{queue-lawful, listing-up, listed, origin}
 
 -- ---- places in a list

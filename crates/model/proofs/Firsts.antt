@@ -5,17 +5,16 @@ use mathlib.Core.Bool.{Bool, true, false, cond, _||_}
 use mathlib.Core.List.{List, [], _∷_}
 use mathlib.Core.Logic.{⊎-elim}
 use native.Mathlib.Omega.{arith}
-use native.Mathlib.Numerals.{add-one}
 use lib.Dec.{leb, eqb}
-use lib.ListN.{length, getD, set}
+use lib.ListN.{length, getD}
 use Rattle.std.specs.declared.option.Option.{Option}
 use Rattle.std.specs.declared.option.Option.the-variants.{Some, None}
 use Rattle.std.specs.Finite.{nth}
 use Rattle.std.proofs.shelf.Lists.{getD-set-other, length-set}
-use Rattle.std.proofs.shelf.Tests.{cases-eq, cases-bool, cond-both, cond-true, cond-false, leb-true, leb-false, le-leb, lt-leb, eqb-true, eqb-false, ne-eqb, eq-eqb, both-ways}
+use Rattle.std.proofs.shelf.Tests.{cases-eq, cases-bool, cond-both, cond-true, cond-false, leb-true, leb-false, eqb-true, ne-eqb, both-ways}
 use Rattle.draw.specs.declared.rows.Share.{Share}
 use Rattle.draw.specs.declared.rows.By.the-variants.{Head}
-use Rattle.draw.specs.Rows.{part, total, pick, wordsAfter, without, nobody, allBack, back}
+use Rattle.draw.specs.Rows.{part, total, pick, wordsAfter, without, nobody, allBack}
 use Rattle.draw.proofs.Orders.{picked}
 use Rattle.draw.proofs.Picks.{part-le, back-without}
 use Rattle.link.specs.declared.words.Word.{Word}
@@ -25,8 +24,8 @@ use Rattle.roster.specs.declared.row.PeerRow.{PeerRow}
 use Rattle.live.specs.declared.row.KeyRow.{KeyRow}
 use Rattle.live.specs.declared.queue.QueueRow.{QueueRow}
 use Rattle.model.specs.Ids.{nextOf, wordsOf}
-use Rattle.model.specs.Tries.{soonerOf, stays, leftOut, rowsFor, Named, Tried, Fetched, missed, tryOne, tryPeers, tryRows, tryKey, goOn, tryKeys}
-use Rattle.model.specs.Laws.{AllowedAt, Takes, Ready, First}
+use Rattle.model.specs.Tries.{soonerOf, stays, leftOut, rowsFor, Named, Tried, Fetched, tryRows, tryKey, goOn, tryKeys}
+use Rattle.model.specs.Laws.{AllowedAt, Ready, First}
 use Rattle.model.proofs.Steps.{rows-none, rows-some}
 
 pub none-left : (xs : List Share) (p : ℕ) → total Head xs ≡ 0 → part Head (getD xs p nobody) ≡ 0

@@ -1,7 +1,7 @@
 -- The listing of the queue: each queued key once, in queue order.
-use Prim.Native.Nat.{ℕ, zero, suc, _+_, _≤_, _<_}
+use Prim.Native.Nat.{ℕ, suc, _+_, _≤_, _<_}
 use mathlib.Core.Path.{_≡_, refl, sym, ap, subst, _∙_}
-use mathlib.Core.Bool.{Bool, true, false, cond}
+use mathlib.Core.Bool.{cond}
 use mathlib.Core.List.{List, [], _∷_}
 use mathlib.Core.Logic.{_⊎_, inl, inr, ⊎-elim}
 use native.Mathlib.Omega.{arith}
@@ -10,14 +10,14 @@ use Rattle.std.specs.Options.{isSome}
 use Rattle.std.specs.declared.option.Option.{Option}
 use Rattle.std.specs.declared.option.Option.the-variants.{Some, None}
 use Rattle.std.proofs.shelf.Tests.{cond-both}
-use Rattle.kinds.specs.Order.{byNumber, andThen}
+use Rattle.kinds.specs.Order.{byNumber}
 use Rattle.kinds.specs.declared.ordered.Ordered.{Ghosts as Order}
 use Rattle.kinds.specs.declared.pair.Pair.{Pair}
 use Rattle.kinds.proofs.Lex.{then-joined, then-equal, then-reversed, number-same, number-reflexive, number-turned, number-joined}
 use Rattle.tables.specs.Rows.{Lawful, Ascending, In, lookup, put}
-use Rattle.tables.specs.Tables.{Tab, with-rows, emptied, fits, put-in}
+use Rattle.tables.specs.Tables.{Tab, with-rows, fits, put-in}
 use Rattle.tables.proofs.Lawfuls.{pair-lawful}
-use Rattle.tables.proofs.Laws.{ascending-none, ascending-put, lookup-put-same, length-put}
+use Rattle.tables.proofs.Laws.{ascending-put, lookup-put-same, length-put}
 use Rattle.tables.proofs.Finds.{lookup-put}
 use Rattle.tables.proofs.Room.{room-fits, put-in-is}
 use Rattle.live.specs.declared.row.KeyRow.{KeyRow}

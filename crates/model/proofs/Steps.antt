@@ -1,9 +1,8 @@
 -- One step of the walk.
-use Prim.Native.Nat.{ℕ, zero, suc, _+_, _<_, _≤_, _%_, _^_, min}
+use Prim.Native.Nat.{ℕ, suc, _+_, _<_, _≤_, _%_, _^_, min}
 use mathlib.Core.Path.{_≡_, refl, sym, ap, subst, _∙_}
-use mathlib.Core.Bool.{Bool, true, false, cond}
-use mathlib.Core.List.{List, [], _∷_}
-use native.Mathlib.Omega.{arith}
+use mathlib.Core.Bool.{Bool, true, false}
+use mathlib.Core.List.{List, _∷_}
 use native.Mathlib.Numerals.{add-one}
 use lib.Dec.{leb, eqb}
 use lib.ListN.{length, drop, getD}
@@ -24,7 +23,7 @@ use Rattle.live.specs.declared.row.KeyRow.{KeyRow}
 use Rattle.live.specs.declared.queue.QueueRow.{QueueRow}
 use Rattle.model.specs.Ids.{idOf, nextOf, wordsOf}
 use Rattle.live.specs.Requests.{id-out}
-use Rattle.model.specs.Tries.{soonerOf, rowsFor, Named, Tried, Fetched, missed, orMissed, tryOne, tryPeers, tryRows, tryKey, goOn, tryKeys, Carried, Unused}
+use Rattle.model.specs.Tries.{soonerOf, rowsFor, Tried, Fetched, missed, orMissed, tryOne, tryPeers, tryRows, goOn, tryKeys, Carried, Unused}
 
 pub closed-is : (v : Word) → NoWait v → (v ≡ Take → ⊥) → v ≡ Closed
 closed-is Take f h = absurd (h refl)

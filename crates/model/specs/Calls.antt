@@ -11,14 +11,14 @@ use Rattle.kinds.specs.declared.ordered.Ordered.{Ghosts as Order}
 use Rattle.score.specs.declared.rating.Rating.{Ghosts as Rate}
 use Rattle.tables.specs.Rows.{lookup}
 use Rattle.tables.specs.Only.{only-rows}
-use Rattle.tables.specs.Tables.{Tab, fits, put-in, take-out, sweep-by, fill-with}
-use Rattle.roster.specs.Rosters.{taken-over, weighed-in, recorded-in, weight-of}
+use Rattle.tables.specs.Tables.{fits, put-in, take-out, sweep-by, fill-with}
+use Rattle.roster.specs.Rosters.{taken-over, weighed-in, recorded-in}
 use Rattle.live.specs.declared.row.KeyRow.{KeyRow}
 use Rattle.live.specs.declared.queue.QueueRow.{QueueRow}
 use Rattle.live.specs.declared.stage.Stage.{Stage}
 use Rattle.live.specs.declared.stage.Stage.the-variants.{Queued, Out, Judged}
 use Rattle.live.specs.declared.stage.Event.{Event}
-use Rattle.live.specs.declared.stage.Event.the-variants.{Returned, Answered, Redelivered, Rejected}
+use Rattle.live.specs.declared.stage.Event.the-variants.{Returned, Rejected}
 use Rattle.live.specs.declared.requests.Request.{Request}
 use Rattle.live.specs.Keys.{keyOf, fresh-row, stepped, step-fits, aimed-in}
 use Rattle.live.specs.Requests.{until, earliest, asked}

@@ -1,6 +1,5 @@
 -- What a fetcher holds.
 use Prim.Native.Nat.{ℕ}
-use mathlib.Core.List.{List}
 use Rattle.std.specs.declared.option.Option.{Option}
 use Rattle.kinds.specs.declared.pair.Pair.{Pair}
 use Rattle.tables.specs.declared.row.Only.{Only}

@@ -7,7 +7,6 @@ use lib.ListN.{length}
 use Rattle.std.specs.declared.option.Option.{Option}
 use Rattle.std.specs.declared.option.Option.the-variants.{Some, None}
 use Rattle.kinds.specs.declared.ordered.Ordered.{Ghosts as Order}
-use Rattle.draw.specs.Rows.{allBack}
 use Rattle.link.specs.declared.words.Word.{Word}
 use Rattle.link.specs.declared.words.Message.{Message}
 use Rattle.tables.specs.Rows.{Ascending}
@@ -17,7 +16,7 @@ use Rattle.live.specs.declared.stage.Stage.the-variants.{Out}
 use Rattle.live.specs.Keys.{keyOf}
 use Rattle.live.specs.Queues.{queue-row, earlier}
 use Rattle.model.specs.Fet.{Fet}
-use Rattle.model.specs.Laws.{Takes, Ready}
+use Rattle.model.specs.Laws.{Takes}
 use Rattle.model.specs.Fetches.{aims}
 use Rattle.model.specs.Calls.{row-of}
 

@@ -1,5 +1,5 @@
 // The tries of keys and peers, until a message is taken.
-ghost use Prim.Native.Nat.{ℕ, _<_, _^_};
+ghost use Prim.Native.Nat.{_<_, _^_};
 ghost use mathlib.Core.Path.{_≡_};
 ghost use mathlib.Core.Bool.{false as no};
 ghost use lib.ListN.{length};

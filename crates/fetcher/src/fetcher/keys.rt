@@ -2,8 +2,6 @@
 ghost use mathlib.Core.Path.{_≡_};
 ghost use Rattle.tables.specs.Tables.{tabOf};
 ghost use Rattle.live.specs.declared.stage.Event.the-variants.{Answered, Redelivered};
-ghost use Rattle.live.specs.Keys.{keyOf};
-ghost use Rattle.tables.specs.Rows.{lookup};
 ghost use Rattle.model.specs.Calls.{row-of, aim-answer, aim-step, unaim-step, has-aim, ready-answer, ready-step, move-answer, moved, retry-at, retry-answer, retry-step, clear-step, retain-step};
 ghost use Rattle.fetcher.specs.View.{fetOf};
 use crate::fetcher::Fetcher;

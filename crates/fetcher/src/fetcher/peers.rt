@@ -3,7 +3,6 @@ ghost use mathlib.Core.Path.{_≡_};
 ghost use Rattle.std.specs.declared.option.Option.the-variants.{None as Nothing};
 ghost use Rattle.tables.specs.Tables.{tabOf, emptied};
 ghost use Rattle.roster.specs.Rosters.{rosterOf};
-ghost use Rattle.model.specs.Fet.{Fet};
 ghost use Rattle.model.specs.Calls.{reconcile-answer, reconcile-step, block-answer, block-step, recorded};
 ghost use Rattle.fetcher.specs.View.{fetOf};
 use crate::fetcher::Fetcher;

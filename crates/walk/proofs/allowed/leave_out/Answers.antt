@@ -1,8 +1,7 @@
 use Prim.Native.Nat.{_+_}
-use mathlib.Core.Path.{_≡_, refl, sym, ap, _∙_}
+use mathlib.Core.Path.{sym, ap, _∙_}
 use native.Mathlib.Omega.{arith}
 use lib.ListN.{drop}
-use borrow.Author.Needs.{needs}
 use Rattle.tables.specs.Tables.{tabOf}
 use Rattle.model.specs.Tries.{leftOut}
 use Rattle.model.specs.Fetches.{aims}

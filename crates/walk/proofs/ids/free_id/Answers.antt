@@ -1,8 +1,7 @@
 use Prim.Native.Nat.{_<_, _^_}
-use mathlib.Core.Path.{_≡_, sym, _∙_}
+use mathlib.Core.Path.{sym, _∙_}
 use native.Mathlib.Omega.{arith}
 use lib.ListN.{length}
-use borrow.Author.Needs.{needs}
 use Rattle.tables.specs.Tables.{tabOf}
 use Rattle.live.specs.Requests.{id-out}
 use Rattle.model.proofs.Frees.{free-stop, falls, goes-on}

@@ -1,9 +1,8 @@
-use Prim.Native.Nat.{ℕ, _+_, _<_, _^_, _≤_}
-use mathlib.Core.Path.{_≡_, refl, sym, ap, subst, _∙_}
+use Prim.Native.Nat.{_<_, _^_, _≤_}
+use mathlib.Core.Path.{_≡_, sym, ap, subst, _∙_}
 use mathlib.Core.Bool.{false}
 use native.Mathlib.Omega.{arith}
-use lib.ListN.{length, drop, take}
-use borrow.Author.Needs.{needs}
+use lib.ListN.{length, drop}
 use Rattle.std.specs.Of.Vec.{vec-items}
 use Rattle.std.specs.declared.option.Option.the-variants.{None}
 use Rattle.std.proofs.shelf.Lists.{take-at}
@@ -12,7 +11,7 @@ use Rattle.draw.specs.declared.rows.Share.{Share}
 use Rattle.draw.specs.Rows.{allBack, heft}
 use Rattle.tables.specs.Tables.{tabOf}
 use Rattle.roster.specs.Weights.{heaviest}
-use Rattle.model.specs.Tries.{Fetched, Unused, told, limit}
+use Rattle.model.specs.Tries.{Fetched, told, limit}
 use Rattle.model.specs.Fetches.{aims}
 use Rattle.model.specs.Laws.{First, Quiet}
 use Rattle.model.proofs.Firsts.{first}

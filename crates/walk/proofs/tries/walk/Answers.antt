@@ -1,4 +1,4 @@
-use Prim.Native.Nat.{ℕ, _+_, _<_, _≤_, _%_, _^_}
+use Prim.Native.Nat.{_+_, _<_, _%_, _^_}
 use mathlib.Core.Path.{_≡_, refl, sym, ap, subst, _∙_}
 use mathlib.Core.Bool.{true}
 use native.Mathlib.Omega.{arith}
@@ -8,7 +8,7 @@ use Rattle.std.specs.declared.option.Option.the-variants.{Some, None}
 use Rattle.std.specs.Finite.{nth}
 use Rattle.std.proofs.shelf.Maps.{nth-read}
 use Rattle.draw.specs.declared.rows.By.the-variants.{Head}
-use Rattle.draw.specs.Rows.{allBack, heft, total, without, wordsAfter}
+use Rattle.draw.specs.Rows.{allBack, total, without}
 use Rattle.draw.proofs.Picks.{heft-same}
 use Rattle.link.specs.declared.words.Word.the-variants.{Take, Closed, Wait}
 use Rattle.link.specs.declared.words.Message.{Message}

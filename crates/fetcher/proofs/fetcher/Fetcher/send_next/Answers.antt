@@ -1,5 +1,4 @@
-use Prim.Native.Nat.{ℕ}
-use mathlib.Core.Path.{_≡_, refl, sym, ap, subst, _∙_}
+use mathlib.Core.Path.{_≡_, ap, subst, _∙_}
 use mathlib.Core.Bool.{false}
 use Rattle.std.specs.declared.option.Option.the-variants.{None}
 use Rattle.tables.specs.Tables.{Tab, tabOf, emptied}

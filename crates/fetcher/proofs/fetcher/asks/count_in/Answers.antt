@@ -1,4 +1,3 @@
-use mathlib.Core.Path.{_≡_, sym}
 use mathlib.Core.Bool.{true, false}
 use native.Mathlib.Omega.{arith}
 use Rattle.model.proofs.Counts.{count-more, count-end}
