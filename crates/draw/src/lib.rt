@@ -1,4 +1,6 @@
 // Random words, and the draw without replacement over shared weights.
+#![tactic(auto)]
+
 pub mod rows;
 pub mod selection;
 pub mod words;

@@ -1,4 +1,6 @@
 // Kinds of peers, keys and subscribers: what orders them and how each is written in bytes.
+#![tactic(auto)]
+
 mod bytes32;
 mod digest;
 mod forms;

@@ -1,4 +1,6 @@
 // Theorems on the definitions that the contracts of a fetcher cite.
+#![tactic(auto)]
+
 ghost use Rattle.model.specs.Fet.{Fet};
 ghost use Rattle.laws.specs.Waiters.{WaiterStands};
 ghost use Rattle.laws.specs.Weights.{WeightsStand};

@@ -1,4 +1,6 @@
 // A link to peers: what it says of each, and how a message is sent over it.
+#![tactic(auto)]
+
 ghost use Rattle.std.specs.Prelude.{◌≡◌, ℕ, ◌^◌, ◌<◌, Option};
 ghost use Rattle.link.specs.declared.words.Word.{Word};
 ghost use Rattle.link.specs.declared.words.Word.TheVariants.{Wait};

@@ -1,4 +1,6 @@
 // The live keys: queued, out or under judgement.
+#![tactic(auto)]
+
 mod keys;
 mod queue;
 mod requests;

@@ -1,4 +1,6 @@
 // What the calls of a fetcher come to, as definitions on lists and numbers.
+#![tactic(auto)]
+
 use link::Message;
 
 // What a walk over the queue came to: the message that was taken, the least deadline not due, the least wait met, and

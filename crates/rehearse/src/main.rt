@@ -1,4 +1,6 @@
 // Reads a script of calls, makes them on a house, and prints what each answers and leaves.
+#![tactic(auto)]
+
 mod bench;
 mod fault;
 mod house;

@@ -1,4 +1,6 @@
 // The roster: the peers that a fetch may ask, with their ratings and their shares of a draw.
+#![tactic(auto)]
+
 mod join;
 mod participants;
 mod row;

@@ -1,4 +1,6 @@
 // Worked cases and examples of every layer.
+#![tactic(auto)]
+
 ghost use Rattle.samples.specs.Cases.{Cases};
 
 #[cfg(test)]

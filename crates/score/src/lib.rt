@@ -1,4 +1,6 @@
 // What a peer's record of replies weighs in a draw.
+#![tactic(auto)]
+
 mod flat;
 mod means;
 mod rating;

@@ -1,4 +1,6 @@
 // Rows in the order of their keys, in memory that is reserved once.
+#![tactic(auto)]
+
 mod lists;
 mod places;
 mod row;

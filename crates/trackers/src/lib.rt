@@ -1,4 +1,6 @@
 // Which peers a key is aimed at, which deliveries run, and what the tables keep of each other.
+#![tactic(auto)]
+
 mod keeping;
 mod slips;
 mod targets;

@@ -1,4 +1,6 @@
 // Two sends over one link, each under a pass of its own.
+#![tactic(auto)]
+
 ghost use Rattle.std.specs.Prelude.{◌≡◌, ℕ};
 ghost use Rattle.twice.specs.Twice.{Twice};
 

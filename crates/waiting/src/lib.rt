@@ -1,4 +1,6 @@
 // Who waits for which key, and who belongs to its running delivery.
+#![tactic(auto)]
+
 mod pairs;
 mod rows;
 mod rules;

@@ -1,4 +1,6 @@
 // The walk of a fetch over due keys and drawn peers.
+#![tactic(auto)]
+
 mod allowed;
 mod ids;
 mod tries;
