@@ -1,10 +1,9 @@
 -- Orders by a first part and then by the rest.
-use Rattle.std.specs.Prelude.{◌≡◌, ℕ, ◌<◌, List, [], ◌∷◌, refl}
+use Rattle.std.specs.Prelude.{◌≡◌, ℕ, List, [], ◌∷◌, refl}
 use Rattle.std.specs.declared.cmp.Ordering.TheVariants.{Less, Equal, Greater}
 use Rattle.std.specs.declared.cmp.Ordering.{Ordering}
-use Rattle.std.proofs.Common.{sym, ◌∙◌, ap, subst, arith}
-use Rattle.std.specs.Ordering.{ordering_reverse, MatchOrdering}
-use Rattle.std.specs.Cmp.Lexicographic.{Lex}
+use Rattle.std.proofs.Common.{sym, arith}
+use Rattle.std.specs.Ordering.{ordering_reverse}
 use Rattle.std.proofs.lemmas.Bool.Decides.{nat_tests}
 use Rattle.kinds.specs.Order.{by_number, by_bytes, and_then}
 
@@ -68,19 +67,3 @@ bytes_joined [] (y ∷ ys) (z ∷ zs) h k = refl
 bytes_joined (x ∷ xs) [] zs h k = cc
 bytes_joined (x ∷ xs) (y ∷ ys) [] h k = cc
 bytes_joined (x ∷ xs) (y ∷ ys) (z ∷ zs) h k = then_joined by_number number_same number_joined x y z _ _ _ _ _ refl refl (bytes_joined xs ys zs) h k
-
--- what `cmp` answers at two lists of numbers
-ranked_number : (x y : ℕ) (o : Ordering) → MatchOrdering o (x < y) (x ≡ y) (y < x) → by_number x y ≡ o
-ranked_number x y o h = grind (arith, nat_tests)
-
-compared_more : (p q r o : Ordering) (L : Type 0) → p ≡ o → (L → r ≡ q) → MatchOrdering o (r ≡ Less) L (r ≡ Greater) → r ≡ and_then p q
-compared_more p q r Less L e f h = rw e h
-compared_more p q r Equal L e f h = rw e (f h)
-compared_more p q r Greater L e f h = rw e h
-
-pub bytes_compared : (xs ys : List ℕ) (r : Ordering) → Lex (λ a b k. MatchOrdering k (a < b) (a ≡ b) (b < a)) xs ys r → r ≡ by_bytes xs ys
-bytes_compared [] [] r h = h
-bytes_compared [] (y ∷ ys) r h = h
-bytes_compared (x ∷ xs) [] r h = h
-bytes_compared (x ∷ xs) (y ∷ ys) r h =
-    compared_more (by_number x y) (by_bytes xs ys) r h.0 _ (ranked_number x y h.0 h.1) (bytes_compared xs ys r) h.2

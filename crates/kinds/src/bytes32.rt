@@ -1,7 +1,7 @@
 // 32 bytes, which public keys and digests are made of.
 ghost use Rattle.std.specs.Prelude.{◌≡◌, ℕ, List, length};
 ghost use Rattle.kinds.specs.Order.{by_bytes};
-ghost use Rattle.kinds.specs.Lex.{bytes_reflexive, bytes_turned, bytes_joined};
+ghost use Rattle.kinds.specs.Lex.{bytes_same, bytes_reflexive, bytes_turned, bytes_joined};
 ghost use Rattle.std.proofs.Common.{rules, arith};
 
 use crate::ordered::Ordered;
@@ -40,7 +40,7 @@ impl Bytes32 {
 impl Ordered for Bytes32 {
     ghost order = { λ x y. by_bytes x.bytes y.bytes };
 
-    ghost same = { first_of (Prim.search rules, Prim.grind (arith, Self.row.coded.inj)) };
+    ghost same = { λ x y h. let e = bytes_same x.bytes y.bytes h in Prim.grind (arith, Self.row.coded.inj) };
 
     ghost reflexive = { λ x. bytes_reflexive x.bytes };
 
@@ -58,11 +58,11 @@ impl Storable for Bytes32 {
 
     ghost form = { λ x. x.bytes };
 
-    ghost narrow = { first_of (Prim.search rules, Prim.grind (arith, Self.row.coded.inj)) };
+    ghost narrow = { Prim.search rules };
 
-    ghost wide = { first_of (Prim.search rules, Prim.grind (arith, Self.row.coded.inj)) };
+    ghost wide = { Prim.search rules };
 
-    ghost distinct = { first_of (Prim.search rules, Prim.grind (arith, Self.row.coded.inj)) };
+    ghost distinct = { Prim.grind (arith, Self.row.coded.inj) };
 
     fn size() -> u16 {
         32

@@ -1,11 +1,9 @@
 // Records by digest.
 ghost use Rattle.std.specs.Prelude.{◌≡◌, ℕ, List};
-ghost use Rattle.std.proofs.Common.{ap, rules};
+ghost use Rattle.std.proofs.Common.{rules};
 ghost use Rattle.kinds.specs.Order.{by_bytes};
 ghost use Rattle.kinds.specs.Lex.{bytes_same, bytes_reflexive, bytes_turned, bytes_joined};
-ghost use Rattle.kinds.specs.ValuesLemmas.{bytes32_same};
-ghost use Rattle.kinds.specs.DigestOrderedLemmas.{of};
-ghost use Rattle.kinds.specs.DigestStorableLemmas;
+ghost use Rattle.kinds.specs.ValuesLemmas.{digest_same};
 
 use crate::bytes32::Bytes32;
 use crate::ordered::Ordered;
@@ -20,7 +18,7 @@ pub struct Digest(pub Bytes32);
 impl Ordered for Digest {
     ghost order = { λ x y. by_bytes x.0.bytes y.0.bytes };
 
-    ghost same = { λ x y h. ap of (bytes32_same x.0 y.0 (bytes_same x.0.bytes y.0.bytes h)) };
+    ghost same = { λ x y h. digest_same x y (bytes_same x.0.bytes y.0.bytes h) };
 
     ghost reflexive = { λ x. bytes_reflexive x.0.bytes };
 
@@ -42,7 +40,7 @@ impl Storable for Digest {
 
     ghost wide = { Prim.search rules };
 
-    ghost distinct = { λ x y e. ap DigestStorableLemmas.of (bytes32_same x.0 y.0 e) };
+    ghost distinct = { digest_same };
 
     fn size() -> u16 {
         Bytes32::size()

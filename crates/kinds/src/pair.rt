@@ -23,9 +23,7 @@ impl<A: Ordered, B: Ordered> Ordered for Pair<A, B> {
     ghost turned = { Prim.search rules };
 
     ghost joined = { λ x y z h k.
-        let a = A.Ordered in
-        let b = B.Ordered in
-        then_joined A.Ordered.order a.same a.joined x.first y.first z.first _ _ _ _ _ refl refl (b.joined x.second y.second z.second) h k };
+        then_joined A.Ordered.order A.Ordered.same A.Ordered.joined x.first y.first z.first _ _ _ _ _ refl refl (B.Ordered.joined x.second y.second z.second) h k };
 
     fn compare(&self, other: &Self) -> Ordering {
         match self.first.compare(&other.first) {
