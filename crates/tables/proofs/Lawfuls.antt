@@ -1,8 +1,7 @@
 -- Orders that are total: of a kind, of numbers and of pairs.
-use Rattle.std.proofs.Common.{◌≡◌, Ordering, sym, refl, ap, ◌∙◌}
-use Rattle.kinds.specs.Order.{and_then, by_number}
+use Rattle.std.proofs.Common.{◌≡◌, refl, ap, ◌∙◌}
+use Rattle.kinds.specs.Order.{by_number}
 use Rattle.kinds.specs.declared.ordered.Ordered.{Ghosts as Order}
-use Rattle.kinds.specs.declared.pair.Pair.{Pair}
 use Rattle.kinds.specs.Lex.{then_joined, then_equal, then_reversed, number_same, number_reflexive, number_turned, number_joined}
 use Rattle.tables.specs.Rows.{Lawful, by_pair, pair}
 

@@ -1,7 +1,6 @@
 -- What a caller may know of `lookup`, `put`, `without` and `swept` on rows in the order of their keys.
-use Rattle.std.proofs.Common.{◌≡◌, ℕ, zero, suc, ◌+◌, ◌<◌, ◌≤◌, Bool, true, false, cond, List, [], ◌∷◌, length, get_or, set, is_some, Some, None, Ok, Err, Option, Result, Ordering, Less, Equal, Greater, sym, refl, ap, ◌∙◌, subst, arith}
-use Rattle.std.specs.List.{insert, remove, AllByRecursion as All}
-use Rattle.std.proofs.ByRecursion.{All-weaker}
+use Rattle.std.proofs.Common.{◌≡◌, ℕ, ◌+◌, cond, List, [], ◌∷◌, length, get_or, is_some, Some, None, Ok, Err, Option, Result, Ordering, Less, sym, refl, ap, ◌∙◌, subst}
+use Rattle.std.specs.List.{AllByRecursion as All}
 use Rattle.tables.specs.Rows.{Lawful, Ascending, Placed, row_at, place_of, at_place, placed, unplaced, lookup, put, without, swept, and_more}
 use Rattle.tables.proofs.Walks as walks
 use Rattle.tables.proofs.WalkLaws as walk

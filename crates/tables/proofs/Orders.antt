@@ -1,10 +1,10 @@
 -- A list in order is ascending, and an ascending one is in order.
-use Rattle.std.proofs.Common.{◌≡◌, ℕ, zero, suc, ◌+◌, ◌<◌, ◌≤◌, Bool, true, false, ◌&&◌, List, [], ◌∷◌, length, get_or, Some, None, Option, Ordering, Less, Equal, Greater, sym, refl, ap, ◌∙◌, subst, arith}
+use Rattle.std.proofs.Common.{◌≡◌, ℕ, Bool, true, false, ◌&&◌, List, [], ◌∷◌, Some, Ordering, Less, Equal, Greater, refl, arith}
 use Rattle.std.specs.Ordering.{is_lt}
 use Rattle.std.specs.List.{AllByRecursion as All}
 use Rattle.std.proofs.ByRecursion.{All-weaker}
 use Rattle.tables.specs.Rows.{Lawful, Ascending}
-use Rattle.tables.specs.Lists.{after, ordered_from, ordered}
+use Rattle.tables.specs.Lists.{ordered_from, ordered}
 use Rattle.tables.proofs.WalkLaws as walk
 
 abbrev self : {T : Type 0} → T → T

@@ -7,7 +7,7 @@ use kinds::Ordered;
 pub trait Row: Copy {
     type Key: Ordered;
 
-    ghost keyOf: { Self → Self.Key };
+    ghost key_of: { Self → Self.Key };
 
     fn key(&self) -> Self::Key
         ensures { result ≡ key_of self.now };

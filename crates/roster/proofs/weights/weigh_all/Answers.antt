@@ -15,9 +15,9 @@ loop-row-init g c = (ap (λ t. t ++ shares_for g.P.Ordered g.V.Rating c.args.own
 pub loop-row-preserved : goal.loop-row-preserved
 loop-row-preserved g c =
     let all = shares_for g.P.Ordered g.V.Rating c.args.own (tab_of c.args.blocked.now).rows in (
-      ap (λ t. t ++ all (drop (c.loop-row.row-index + 1) c.args.rows.now)) c.push-reserved.ensures.items
-          ∙ made_over all (vec_items c.loop-row.shares) (all c.args.rows.now) c.args.rows.now c.loop-row.row-index c.row-item.result c.share-of.result (omega arith) c.row-item.is
-          (shares_more g.P.Ordered g.V.Rating c.args.own (tab_of c.args.blocked.now).rows c.row-item.result (drop (c.loop-row.row-index + 1) c.args.rows.now) ∙ ap (λ t. t ∷ all (drop (c.loop-row.row-index + 1) c.args.rows.now)) (sym c.share-of.ensures))
+      ap (λ t. t ++ all (drop (c.loop-row.row-index + 1) c.args.rows.now)) c.push_reserved.ensures.items
+          ∙ made_over all (vec_items c.loop-row.shares) (all c.args.rows.now) c.args.rows.now c.loop-row.row-index c.row-item.result c.share_of.result (omega arith) c.row-item.is
+          (shares_more g.P.Ordered g.V.Rating c.args.own (tab_of c.args.blocked.now).rows c.row-item.result (drop (c.loop-row.row-index + 1) c.args.rows.now) ∙ ap (λ t. t ∷ all (drop (c.loop-row.row-index + 1) c.args.rows.now)) (sym c.share_of.ensures))
           c.loop-row.invariant.0,
       omega arith,
       omega arith,

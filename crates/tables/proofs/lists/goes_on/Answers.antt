@@ -1,9 +1,9 @@
-use Rattle.std.proofs.Common.{◌≡◌, sym, refl, ap, ◌∙◌, arith, rules}
+use Rattle.std.proofs.Common.{sym, ◌∙◌, arith, rules}
 use Rattle.tables.proofs.Steps.{ordered_more, ordered_end}
 use Rattle.tables.proofs.lists.goes_on.Goals as goal
 
-pub returns-then-not-comes-after : goal.returns-then-not-comes-after
-returns-then-not-comes-after g c =
+pub returns-then-not-comes_after : goal.returns-then-not-comes_after
+returns-then-not-comes_after g c =
     let m = ordered_more g.T.Ordered.order c.loop-x.last c.args.list.now c.loop-x.x-index c.x-item.result (omega arith) c.x-item.is in
     search rules
 

@@ -1,4 +1,4 @@
-use Rattle.std.proofs.Common.{◌≡◌, ◌+◌, ◌-◌, ◌/◌, ◌<◌, ◌≤◌, length, Ok, Err, Less, Equal, Greater, sym, refl, ap, ◌∙◌, arith}
+use Rattle.std.proofs.Common.{◌≡◌, ◌+◌, Ok, Less, Equal, Greater, sym, ap, ◌∙◌, arith}
 use Rattle.tables.specs.Rows.{by, between, halfway}
 use Rattle.tables.proofs.Halving.{between_turn, between_done, place_between}
 use Rattle.tables.proofs.places.halve.Goals as goal

@@ -1,4 +1,4 @@
-use Rattle.std.proofs.Common.{◌≡◌, Some, None, sym, refl, ap, ◌∙◌, arith}
+use Rattle.std.proofs.Common.{Some, sym, ap, ◌∙◌, arith}
 use Rattle.tables.proofs.Halving.{row_at_get_or, row_past}
 use Rattle.tables.proofs.places.read.Goals as goal
 

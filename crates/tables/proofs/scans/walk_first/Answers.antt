@@ -1,4 +1,4 @@
-use Rattle.std.proofs.Common.{◌≡◌, sym, refl, ap, ◌∙◌, arith, rules}
+use Rattle.std.proofs.Common.{sym, ◌∙◌, arith, rules}
 use Rattle.tables.proofs.Steps.{first_more, first_end}
 use Rattle.tables.proofs.scans.walk_first.Goals as goal
 

@@ -4,7 +4,7 @@ use Rattle.model.specs.Tries.{left_out}
 use Rattle.model.specs.Fetches.{aims}
 use Rattle.model.proofs.Outs.{kept_in, left_out_lem, out_all}
 use Rattle.walk.proofs.allowed.leave_out.Goals as goal
-use Rattle.walk.proofs.allowed.leave_out.Goals.{then-not-is-kept, else-not-is-kept}
+use Rattle.walk.proofs.allowed.leave_out.Goals.{then-not-is_kept, else-not-is_kept}
 
 pub loop-i-preserved : goal.loop-i-preserved
 loop-i-preserved g c =
@@ -12,14 +12,14 @@ loop-i-preserved g c =
     let ps = c.args.peers.now in
     let i = c.loop-i.i in
     let p = c.index-peers-i.result in
-    elim c.if-not-is-kept.branch [
-      | then-not-is-kept w ↦
+    elim c.if-not-is_kept.branch [
+      | then-not-is_kept w ↦
           ap (left_out ok (drop (i + 1) ps) (i + 1)) w.shares-is
-          ∙ sym (left_out_lem ok ps i c.loop-i.shares p c.loop-i-test.true c.index-peers-i.is (sym c.is-kept.ensures ∙ w.if-not-is-kept.true))
+          ∙ sym (left_out_lem ok ps i c.loop-i.shares p c.loop-i-test.true c.index-peers-i.is (sym c.is_kept.ensures ∙ w.if-not-is_kept.true))
           ∙ c.loop-i.invariant
-      | else-not-is-kept w ↦
+      | else-not-is_kept w ↦
           ap (left_out ok (drop (i + 1) ps) (i + 1)) w.shares-is
-          ∙ sym (kept_in ok ps i c.loop-i.shares p c.loop-i-test.true c.index-peers-i.is (sym c.is-kept.ensures ∙ w.if-not-is-kept.false))
+          ∙ sym (kept_in ok ps i c.loop-i.shares p c.loop-i-test.true c.index-peers-i.is (sym c.is_kept.ensures ∙ w.if-not-is_kept.false))
           ∙ c.loop-i.invariant
     ]
 

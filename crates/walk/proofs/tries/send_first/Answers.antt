@@ -12,13 +12,13 @@ use Rattle.model.proofs.Leasts.{least_heard}
 use Rattle.model.proofs.Wholes.{tries_same}
 use Rattle.walk.proofs.tries.send_first.Goals as goal
 
-pub invariant-of-roster : goal.invariant-of-roster
-invariant-of-roster g c =
+pub invariant_of-roster : goal.invariant_of-roster
+invariant_of-roster g c =
     let r = c.args.roster.now in
     let after = c.walk.new.shares in
-    let long : length after ≡ r.shares.len = ap length c.walk.ensures.shares ∙ c.as-mut-slice.ensures.len in
+    let long : length after ≡ r.shares.len = ap length c.walk.ensures.shares ∙ c.as_mut_slice.ensures.len in
     let same = take_at after (drop (length after) r.shares.items) r.shares.len long
-    ∙ c.walk.ensures.shares ∙ c.as-mut-slice.ensures.value in (
+    ∙ c.walk.ensures.shares ∙ c.as_mut_slice.ensures.value in (
       r.few,
       (
         r.within,
@@ -52,12 +52,12 @@ returns g c =
     let aim = aims g.P.Ordered g.K.Ordered (tab_of c.args.targets.now.table).rows in
     let w = g.D.DrawSource.ahead c.args.source.now in
     let after = c.walk.new.shares in
-    let long : length after ≡ r.shares.len = ap length c.walk.ensures.shares ∙ c.as-mut-slice.ensures.len in
+    let long : length after ≡ r.shares.len = ap length c.walk.ensures.shares ∙ c.as_mut_slice.ensures.len in
     let same = take_at after (drop (length after) r.shares.items) r.shares.len long
-    ∙ c.walk.ensures.shares ∙ c.as-mut-slice.ensures.value in
+    ∙ c.walk.ensures.shares ∙ c.as_mut_slice.ensures.value in
     let e = c.walk.ensures.told
     ∙ tries_same word c.args.time _ (vec_items r.rows) (tab_of k.table).rows aim _ (vec_items r.shares) _ (tab_of k.queue).rows w c.args.next.now
-    c.as-slice.ensures.value c.as-mut-slice.ensures.value c.rows.ensures in
+    c.as_slice.ensures.value c.as_mut_slice.ensures.value c.rows.ensures in
     let sent = ap (λ (f : Fetched g.row.P.Denot g.row.K.Denot). f.sent) e in
     let level : length (vec_items r.rows) ≡ length (vec_items r.shares) = omega (arith, r.rows.ok.0, r.shares.ok.0, r.beside) in
     record {

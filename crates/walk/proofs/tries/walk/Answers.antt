@@ -40,8 +40,8 @@ peers-init g c =
 pub next-requires : goal.next-requires
 next-requires g c = c.peers.invariant.4
 
-pub offset-bounds-peers-place : goal.offset-bounds-peers-place
-offset-bounds-peers-place g c = omega (arith, c.in-Some.ensures.fewer.0, c.peers.invariant.5)
+pub offset_bounds-peers-place : goal.offset_bounds-peers-place
+offset_bounds-peers-place g c = omega (arith, c.in-Some.ensures.fewer.0, c.peers.invariant.5)
 
 pub bounds-peers-place : goal.bounds-peers-place
 bounds-peers-place g c = omega (arith, c.in-Some.ensures.fewer.0, c.peers.invariant.5)
@@ -92,14 +92,14 @@ peers-preserved g c =
       omega (arith, e.weight, c.peers.invariant.4),
       back_length c.next.new.self.shares.now xs e.back ∙ c.peers.invariant.5,
       rows_refuse (g.L.Link.word c.keys.link) c.args.time c.args.peers.now (tab_of c.args.out.now.table).rows xs c.row-item.result.retries (g.D.DrawSource.ahead c.peers.source) c.peers.next c.peers.wait c.peers.allowed
-          p row e.place fewer at c.next.new.self.shares.now (g.D.DrawSource.ahead c.next.new.source) (g.D.DrawSource.ahead c.take-id-id.new.source) c.take-id-id.new.next v e.rows e.words
-          c.take-id-id.ensures.words c.take-id-id.ensures.next
+          p row e.place fewer at c.next.new.self.shares.now (g.D.DrawSource.ahead c.next.new.source) (g.D.DrawSource.ahead c.take_id-id.new.source) c.take_id-id.new.next v e.rows e.words
+          c.take_id-id.ensures.words c.take_id-id.ensures.next
           ∙ c.peers.invariant.6,
     )
 
 pub keys-preserved : goal.keys-preserved
 keys-preserved g c =
-    let e = c.in-default.ensures in
+    let e = c.in_default.ensures in
     let xs = c.peers.selection.shares.now in
     let aim = aims g.P.Ordered g.K.Ordered (tab_of c.args.targets.now.table).rows in
     let allowed : c.new-selection.result.shares.now ≡ rows_for c.row-item.result.aimed (aim c.row-item.result.key) c.args.peers.now c.args.shares.now =
@@ -163,23 +163,23 @@ returns g c =
           subst (λ l. try_rows (g.L.Link.word l) c.args.time c.args.peers.now (tab_of c.args.out.now.table).rows xs w.row-item.result.retries (g.D.DrawSource.ahead w.peers.source) w.peers.next w.peers.wait w.peers.allowed
           ≡ try_rows (g.L.Link.word l) c.args.time c.args.peers.now (tab_of c.args.out.now.table).rows w.new-selection.result.shares.now w.row-item.result.retries (g.D.DrawSource.ahead c.keys.source) c.keys.next c.keys.wait c.keys.allowed) c.keys.invariant.1 w.peers.invariant.6 in
           let took = rows_take word c.args.time c.args.peers.now (tab_of c.args.out.now.table).rows xs w.row-item.result.retries (g.D.DrawSource.ahead w.peers.source) w.peers.next w.peers.wait w.peers.allowed
-          p row e.place fewer at (g.D.DrawSource.ahead w.next.new.source) (g.D.DrawSource.ahead w.take-id-id.new.source) w.take-id-id.new.next w.take-id-id.result v e.words
-          w.take-id-id.ensures.words w.take-id-id.ensures.next w.take-id-id.ensures.value in
+          p row e.place fewer at (g.D.DrawSource.ahead w.next.new.source) (g.D.DrawSource.ahead w.take_id-id.new.source) w.take_id-id.new.next w.take_id-id.result v e.words
+          w.take_id-id.ensures.words w.take_id-id.ensures.next w.take_id-id.ensures.value in
           let lend = e.lender ∙ w.peers.invariant.0 ∙ w.new-selection.ensures.lender in
           let last = w.drop-selection.ensures ∙ back in
-          let message : Message g.row.P.Denot g.row.K.Denot = record { id = w.take-id-id.result; peer = peer; key = w.row-item.result.key } in
+          let message : Message g.row.P.Denot g.row.K.Denot = record { id = w.take_id-id.result; peer = peer; key = w.row-item.result.key } in
           record {
             shares = search rules;
-            told = fetched_is c.keys-test.sent (Some message) (g.D.DrawSource.ahead c.keys-test.source) (g.D.DrawSource.ahead w.take-id-id.new.source) c.keys-test.next w.take-id-id.new.next c.keys.late c.keys-test.wait w.peers.wait c.keys-test.allowed true
+            told = fetched_is c.keys-test.sent (Some message) (g.D.DrawSource.ahead c.keys-test.source) (g.D.DrawSource.ahead w.take_id-id.new.source) c.keys-test.next w.take_id-id.new.next c.keys.late c.keys-test.wait w.peers.wait c.keys-test.allowed true
                 w.sent-is (ap g.D.DrawSource.ahead w.source-is) w.next-is w.wait-is w.allowed-is
                 ∙ sym (keys_sent word c.args.time c.args.peers.now (tab_of c.args.out.now.table).rows aim c.args.shares.now
                 c.args.queue.now c.keys.row-index (g.D.DrawSource.ahead c.keys.source) c.keys.next c.keys.late c.keys.wait c.keys.allowed
                 w.row-item.result w.keys-test.true w.row-item.is w.if-row-time.false w.new-selection.result.shares.now allowed
-                (g.D.DrawSource.ahead w.take-id-id.new.source) w.take-id-id.new.next w.peers.wait true w.take-id-id.result peer (sym tried ∙ took))
+                (g.D.DrawSource.ahead w.take_id-id.new.source) w.take_id-id.new.next w.peers.wait true w.take_id-id.result peer (sym tried ∙ took))
                 ∙ c.keys.invariant.3;
-            unused = unused_some (tab_of c.args.out.now.table).rows c.keys-test.sent message w.sent-is w.take-id-id.ensures.unused;
+            unused = unused_some (tab_of c.args.out.now.table).rows c.keys-test.sent message w.sent-is w.take_id-id.ensures.unused;
             link = carried_some g.L.Link.count g.L.Link.latest c.args.link.now c.keys-test.link c.keys-test.sent message w.sent-is
                 (ap g.L.Link.count w.link-is ∙ f.1 ∙ ap (λ m. (g.L.Link.count m + 1) % 2 ^ 64) l)
-                (ap g.L.Link.latest w.link-is ∙ f.2 ∙ ap (λ q. Some (record { id = w.take-id-id.result; peer = q; key = w.row-item.result.key })) t.0);
+                (ap g.L.Link.latest w.link-is ∙ f.2 ∙ ap (λ q. Some (record { id = w.take_id-id.result; peer = q; key = w.row-item.result.key })) t.0);
           }
     ]

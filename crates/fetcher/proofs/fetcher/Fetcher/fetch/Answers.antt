@@ -10,7 +10,7 @@ use Rattle.fetcher.proofs.fetcher.Fetcher.fetch.Goals as goal
 pub returns : goal.returns
 returns g c =
     let f = fet_of c.args.self.now in
-    let e = c.send-due.ensures in
+    let e = c.send_due.ensures in
     let met = g.met.K.Ordered in
     let o : Lawful g.K.Ordered.order = record { same = met.same; reflexive = met.reflexive; turned = met.turned; joined = met.joined } in
     record {
@@ -21,9 +21,9 @@ returns g c =
       link = e.link;
       quiet = e.quiet;
       law = λ h.
-          let s = sends_first g.P.Ordered g.K.Ordered o (g.L.Link.word c.args.link.now) c.args.time f h c.send-due.result e.first in (
+          let s = sends_first g.P.Ordered g.K.Ordered o (g.L.Link.word c.args.link.now) c.args.time f h c.send_due.result e.first in (
             s,
-            moves_one g.P.Ordered g.K.Ordered o (g.L.Link.word c.args.link.now) c.args.time f h c.send-due.result (fet_of c.send-due.new.self) s
+            moves_one g.P.Ordered g.K.Ordered o (g.L.Link.word c.args.link.now) c.args.time f h c.send_due.result (fet_of c.send_due.new.self) s
                 (ap (λ (x : Fet g.row.P.Denot g.row.V.Denot g.row.K.Denot). x.keys) e.state
                 ∙ ap (λ (x : Option (Message g.row.P.Denot g.row.K.Denot)). sent_in g.K.Ordered x c.args.time f.keys) (sym e.answer)),
           );

@@ -19,8 +19,8 @@ returns g c =
     let w = g.D.DrawSource.ahead c.args.source.now in
     let t = c.list.ensures.table in
     let q = c.list.ensures.queue in
-    let e : told c.send-first.result (g.D.DrawSource.ahead c.send-first.new.source) c.send-first.new.next ≡ fetched g.P.Ordered g.K.Ordered word c.args.time w f =
-    c.send-first.ensures.told
+    let e : told c.send_first.result (g.D.DrawSource.ahead c.send_first.new.source) c.send_first.new.next ≡ fetched g.P.Ordered g.K.Ordered word c.args.time w f =
+    c.send_first.ensures.told
     ∙ ap (λ (x : Tab (KeyRow g.row.K.Denot g.row.P.Denot)). try_keys word c.args.time f.roster.peers.rows x.rows aim f.roster.shares (tab_of c.list.new.self.queue).rows w f.next limit None false) t
     ∙ ap (λ (x : Tab (QueueRow g.row.K.Denot)). try_keys word c.args.time f.roster.peers.rows f.keys.rows aim f.roster.shares x.rows w f.next limit None false) q in
     record {
@@ -29,11 +29,11 @@ returns g c =
       wait = ap (λ (r : Fetched g.row.P.Denot g.row.K.Denot). r.wait) e;
       allowed = ap (λ (r : Fetched g.row.P.Denot g.row.K.Denot). r.allowed) e;
       words = ap (λ (r : Fetched g.row.P.Denot g.row.K.Denot). r.words) e;
-      state = next_is f (roster_of c.send-first.new.roster) (tab_of c.list.new.self.table) (emptied (tab_of c.list.new.self.queue)) c.send-first.new.next _
-          c.send-first.ensures.roster t (ap emptied q ∙ emptied_all g.K.Ordered f.keys.rows f.listing) (ap (λ (r : Fetched g.row.P.Denot g.row.K.Denot). r.next) e);
-      unused = subst (λ (x : Tab (KeyRow g.row.K.Denot g.row.P.Denot)). Unused x.rows c.send-first.result.sent) t c.send-first.ensures.unused;
-      link = c.send-first.ensures.link;
-      first = subst (λ (x : Tab (QueueRow g.row.K.Denot)). First word c.args.time f.roster.peers.rows aim f.roster.shares x.rows c.send-first.result.sent) q c.send-first.ensures.first;
-      quiet = subst (Quiet word c.args.time f.roster.peers.rows aim f.roster.shares (queue g.K.Ordered f) c.send-first.result.sent) (ap (λ (r : Fetched g.row.P.Denot g.row.K.Denot). r.wait) e)
-          (subst (λ (x : Tab (QueueRow g.row.K.Denot)). Quiet word c.args.time f.roster.peers.rows aim f.roster.shares x.rows c.send-first.result.sent c.send-first.result.wait) q c.send-first.ensures.quiet);
+      state = next_is f (roster_of c.send_first.new.roster) (tab_of c.list.new.self.table) (emptied (tab_of c.list.new.self.queue)) c.send_first.new.next _
+          c.send_first.ensures.roster t (ap emptied q ∙ emptied_all g.K.Ordered f.keys.rows f.listing) (ap (λ (r : Fetched g.row.P.Denot g.row.K.Denot). r.next) e);
+      unused = subst (λ (x : Tab (KeyRow g.row.K.Denot g.row.P.Denot)). Unused x.rows c.send_first.result.sent) t c.send_first.ensures.unused;
+      link = c.send_first.ensures.link;
+      first = subst (λ (x : Tab (QueueRow g.row.K.Denot)). First word c.args.time f.roster.peers.rows aim f.roster.shares x.rows c.send_first.result.sent) q c.send_first.ensures.first;
+      quiet = subst (Quiet word c.args.time f.roster.peers.rows aim f.roster.shares (queue g.K.Ordered f) c.send_first.result.sent) (ap (λ (r : Fetched g.row.P.Denot g.row.K.Denot). r.wait) e)
+          (subst (λ (x : Tab (QueueRow g.row.K.Denot)). Quiet word c.args.time f.roster.peers.rows aim f.roster.shares x.rows c.send_first.result.sent c.send_first.result.wait) q c.send_first.ensures.quiet);
     }

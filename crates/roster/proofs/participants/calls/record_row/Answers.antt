@@ -5,13 +5,13 @@ use Rattle.roster.specs.Peers.{peer_of, rerated_in, new_weight}
 use Rattle.roster.proofs.Records.{record_answer, record_items}
 use Rattle.roster.proofs.participants.calls.record_row.Goals as goal
 
-pub returns-in-default : goal.returns-in-default
+pub returns-in_default : goal.returns-in_default
 unfolding rerated_in new_weight
-returns-in-default g c = search rules
+returns-in_default g c = search rules
 
 pub returns : goal.returns
 returns g c =
-    let at = c.in-Ok.ensures.value ∙ ap (place_of g.P.Ordered.order peer_of c.args.peer) c.as-slice.ensures.value in
+    let at = c.in-Ok.ensures.value ∙ ap (place_of g.P.Ordered.order peer_of c.args.peer) c.as_slice.ensures.value in
     let lt : c.in-Ok.i < length (vec_items c.args.rows.now) = omega (arith, c.in-Ok.ensures.within) in
     record {
       answer = record_answer g.P.Ordered g.V.Rating c.args.peer c.args.elapsed c.args.size (vec_items c.args.rows.now) c.in-Ok.i c.index-mut-row.result.now c.record.new.self at lt c.index-mut-row.ensures.value c.record.ensures c.weight.result c.weight.ensures;

@@ -5,11 +5,11 @@ use Rattle.roster.specs.Weights.{heaviest}
 use Rattle.roster.proofs.Shares.{light_none}
 use Rattle.roster.proofs.participants.making.reserved.Goals as goal
 
-pub invariant-of-result : goal.invariant-of-result
-invariant-of-result g c =
-    let r = c.in-ok-rows.ensures in
-    let s = c.in-ok-shares.ensures in
-    let t = c.in-ok-spare.ensures in (
+pub invariant_of-result : goal.invariant_of-result
+invariant_of-result g c =
+    let r = c.in_ok-rows.ensures in
+    let s = c.in_ok-shares.ensures in
+    let t = c.in_ok-spare.ensures in (
       c.requires,
       (
         omega arith,

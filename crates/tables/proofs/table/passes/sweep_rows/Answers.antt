@@ -1,4 +1,4 @@
-use Rattle.std.proofs.Common.{◌≡◌, ◌<◌, ◌≤◌, length, vec_items, sym, refl, ap, ◌∙◌, arith, rules}
+use Rattle.std.proofs.Common.{◌<◌, ◌≤◌, length, vec_items, sym, refl, ◌∙◌, arith, rules}
 use Rattle.tables.proofs.Sweeps.{sweeping_start, sweeping_drops, sweeping_keeps, sweeping_all}
 use Rattle.tables.proofs.table.passes.sweep_rows.Goals as goal
 use Rattle.tables.proofs.table.passes.sweep_rows.Goals.{in-Some, in-None}
