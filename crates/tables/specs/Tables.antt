@@ -11,10 +11,10 @@ pub record Tab (R : Type 0) : Type 0 where
   pub most : ℕ
   pub rows : List R
 
-abbrev pub tab_of : {R K : Type 0} {r : _} {k : _} → Table R K r k → Tab R
+abbrev pub tab_of : {R : Type 0} → Table R → Tab R
 tab_of t = record { engine = t.engine; most = t.most; rows = vec_items t.rows }
 
-abbrev pub rows_of : {R K : Type 0} {r : _} {k : _} → Table R K r k → List R
+abbrev pub rows_of : {R : Type 0} → Table R → List R
 rows_of t = vec_items t.rows
 
 -- the table with other rows
@@ -45,7 +45,7 @@ fill_with rows size t = cond (nat_le size t.most) (with_rows t rows) t
 abbrev pub Outside : ℕ → ℕ → Type 0
 Outside most bound = (most ≡ 0) ⊎ (bound < most)
 
-abbrev pub Made : {R K : Type 0} {r : _} {k : _} → ℕ → ℕ → ℕ → Result (Table R K r k) TableError → Type 0
+abbrev pub Made : {R : Type 0} → ℕ → ℕ → ℕ → Result (Table R) TableError → Type 0
 Made engine most bound (Ok t) = (0 < most) × (most ≤ bound) × (tab_of t ≡ record { engine = engine; most = most; rows = [] })
 Made engine most bound (Err Rows) = Outside most bound
 Made engine most bound (Err Memory) = (0 < most) × (most ≤ bound)

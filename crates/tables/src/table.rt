@@ -5,11 +5,9 @@ mod edits;
 pub mod error;
 mod passes;
 
-use crate::row::Row;
-
 // Carries the number of its engine. No call after the making asks for memory.
 #[derive(Drop)]
-pub struct Table<R: Row> {
+pub struct Table<R: Copy> {
     engine: u32,
     most: usize,
     rows: Vec<R>,
