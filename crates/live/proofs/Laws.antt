@@ -1,11 +1,11 @@
 -- What a caller may know of the queue.
 use Rattle.std.proofs.Common.{◌≡◌, ℕ, ◌+◌, ◌<◌, ◌≤◌, Bool, true, false, cond, ◌⊎◌, List, [], ◌∷◌, length, is_some, Some, None, Option, Less, Equal, sym, refl, ap, ◌∙◌, subst, inl, inr, ⊎_elim, arith}
 use Rattle.std.specs.List.{AllByRecursion as All}
-use Rattle.kinds.specs.Order.{and_then, by_number}
+use Rattle.kinds.specs.Order.{by_number}
 use Rattle.kinds.specs.declared.ordered.Ordered.{Ghosts as Order}
 use Rattle.kinds.specs.Lex.{then_joined, then_equal, then_reversed, number_same, number_reflexive, number_turned, number_joined}
 use Rattle.tables.specs.Rows.{Lawful, Ascending, In, pair, lookup, put}
-use Rattle.tables.specs.Tables.{Tab, with_rows, fits, put_in, emptied}
+use Rattle.tables.specs.Tables.{Tab, with_rows, fits, emptied}
 use Rattle.tables.proofs.WalkLaws as walk
 use Rattle.tables.proofs.Laws.{ascending_none, ascending_put, length_put}
 use Rattle.tables.proofs.Finds.{lookup_put, lookup_in, in_lookup}

@@ -1,11 +1,10 @@
 -- The table of live keys, and what each call makes of it.
-use Rattle.std.specs.Prelude.{◌≡◌, ℕ, ◌<◌, ◌≤◌, Bool, true, false, List, [], Some, None, Ok, Err, Option, Result}
+use Rattle.std.specs.Prelude.{◌≡◌, ℕ, ◌<◌, ◌≤◌, Bool, false, [], Some, None, Ok, Err, Option, Result}
 use Rattle.kinds.specs.declared.ordered.Ordered.{Ghosts as Order}
 use Rattle.tables.specs.declared.table.error.TableError.{TableError}
 use Rattle.tables.specs.declared.table.error.TableError.TheVariants.{Rows, Memory}
 use Rattle.tables.specs.Rows.{lookup}
 use Rattle.tables.specs.Tables.{Tab, tab_of, fits, put_in, Outside}
-use Rattle.live.specs.declared.stage.Stage.{Stage}
 use Rattle.live.specs.declared.stage.Stage.TheVariants.{Queued}
 use Rattle.live.specs.declared.stage.Event.{Event}
 use Rattle.live.specs.declared.row.KeyRow.{KeyRow}

@@ -1,5 +1,5 @@
 -- The requests that are out, and the deliveries under judgement.
-use Rattle.std.specs.Prelude.{ℕ, ◌+◌, min, Bool, true, false, cond, ◌&&◌, ◌||◌, List, is_some, Some, None, Option, ◌==◌, nat_lt}
+use Rattle.std.specs.Prelude.{ℕ, ◌+◌, min, Bool, false, cond, ◌&&◌, ◌||◌, List, is_some, Some, None, Option, ◌==◌, nat_lt}
 use Rattle.std.specs.Ordering.{is_eq}
 use Rattle.kinds.specs.declared.ordered.Ordered.{Ghosts as Order}
 use Rattle.tables.specs.Scans.{first_of, best_of}

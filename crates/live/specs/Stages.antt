@@ -1,5 +1,5 @@
 -- What each event makes of each stage.
-use Rattle.std.specs.Prelude.{ℕ, ◌+◌, min, Bool, true, false, Some, None, Option}
+use Rattle.std.specs.Prelude.{ℕ, ◌+◌, min, true, Some, None, Option}
 use Rattle.live.specs.declared.stage.Stage.{Stage}
 use Rattle.live.specs.declared.stage.Stage.TheVariants.{Queued, Out, Judged}
 use Rattle.live.specs.declared.stage.Event.{Event}

@@ -1,19 +1,19 @@
 -- What a caller may know of the rows of a key.
-use Rattle.std.proofs.Common.{◌≡◌, ℕ, zero, suc, ◌+◌, ◌-◌, ◌<◌, ◌≤◌, Bool, true, false, cond, ◌||◌, ◌⊎◌, List, [], ◌∷◌, length, get_or, take, drop, Some, None, filter, Option, Ordering, Less, Equal, Greater, sym, refl, ap, ◌∙◌, subst, inl, inr, ⊎_elim, arith}
-use Rattle.std.specs.Ordering.{is_eq, ordering_reverse}
+use Rattle.std.proofs.Common.{◌≡◌, ℕ, zero, suc, ◌+◌, ◌-◌, ◌<◌, Bool, true, false, cond, ◌||◌, ◌⊎◌, List, [], ◌∷◌, length, get_or, take, drop, Some, filter, Ordering, Less, Equal, Greater, sym, refl, ap, ◌∙◌, subst, inl, inr, ⊎_elim, arith}
+use Rattle.std.specs.Ordering.{is_eq}
 use Rattle.std.specs.List.{AllByRecursion as All}
 use Rattle.kinds.specs.Order.{and_then}
 use Rattle.kinds.specs.declared.ordered.Ordered.{Ghosts as Order}
 use Rattle.std.proofs.lemmas.Bool.{cases_eq}
-use Rattle.tables.specs.Rows.{Lawful, Ascending, In, by, pair, by_pair, lookup}
+use Rattle.tables.specs.Rows.{Lawful, Ascending, In, pair, by_pair, lookup}
 use Rattle.tables.proofs.WalkLaws as walk
 use Rattle.tables.proofs.Finds.{in_lookup, lookup_in}
 use Rattle.tables.proofs.Laws.{lookup_key}
 use Rattle.tables.proofs.Lawfuls.{pair_lawful}
 use Rattle.waiting.specs.declared.rows.WaitRow.{WaitRow}
 use Rattle.waiting.specs.Waits.{pair_of, is_of, wait_row}
-use Rattle.waiting.specs.Groups.{side, turn, test, index, bound_of, rows_of, any_waits, waited}
-use Rattle.waiting.proofs.Splits.{Before, Behind, Steady, lead, place_splits, split_lead}
+use Rattle.waiting.specs.Groups.{side, turn, test, bound_of, rows_of, any_waits, waited}
+use Rattle.waiting.proofs.Splits.{Steady, lead, place_splits, split_lead}
 
 never : {G : Type 0} → true ≡ false → G
 never h = let z : ◌≡◌ {A = ℕ} 0 1 = cc in absurd (omega arith)

@@ -1,5 +1,5 @@
 -- One row more of what is defined along a list.
-use Rattle.std.proofs.Common.{◌≡◌, ℕ, zero, suc, ◌+◌, ◌-◌, ◌<◌, ◌≤◌, Bool, true, false, cond, ◌||◌, List, [], ◌∷◌, length, get_or, take, drop, Some, None, Ok, Err, Option, Result, Ordering, Less, Equal, Greater, sym, refl, ap, ◌∙◌, sub-one, arith}
+use Rattle.std.proofs.Common.{◌≡◌, ℕ, zero, suc, ◌+◌, ◌-◌, ◌<◌, ◌≤◌, Bool, true, false, cond, ◌||◌, List, length, get_or, take, drop, Some, None, Ok, Ordering, sym, refl, ap, ◌∙◌, sub-one, arith}
 use Rattle.std.specs.Ordering.{is_eq}
 use Rattle.kinds.specs.declared.ordered.Ordered.{Ghosts as Order}
 use Rattle.tables.specs.Rows.{by, halfway, between}

@@ -1,5 +1,5 @@
 -- What making the subscribers' tracker answers.
-use Rattle.std.specs.Prelude.{◌≡◌, ℕ, ◌<◌, ◌≤◌, List, [], Ok, Err, Result}
+use Rattle.std.specs.Prelude.{◌≡◌, ℕ, ◌<◌, ◌≤◌, [], Ok, Err, Result}
 use Rattle.tables.specs.declared.table.error.TableError.{TableError}
 use Rattle.tables.specs.declared.table.error.TableError.TheVariants.{Rows, Memory}
 use Rattle.tables.specs.Tables.{Tab, tab_of, Outside}

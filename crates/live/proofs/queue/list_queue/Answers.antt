@@ -1,5 +1,5 @@
-use Rattle.std.proofs.Common.{◌≡◌, sym, refl, ap, ◌∙◌, arith}
-use Rattle.tables.specs.Tables.{tab_of, emptied}
+use Rattle.std.proofs.Common.{sym, ap, ◌∙◌, arith}
+use Rattle.tables.specs.Tables.{tab_of}
 use Rattle.live.specs.Queues.{queue_on}
 use Rattle.live.proofs.Steps.{queue_more, queue_end}
 use Rattle.live.proofs.queue.list_queue.Goals as goal

@@ -1,4 +1,4 @@
-use Rattle.std.proofs.Common.{◌≡◌, true, false, sym, refl, ap, ◌∙◌, arith}
+use Rattle.std.proofs.Common.{true, false, arith}
 use Rattle.waiting.proofs.Steps.{new_counts, new_end}
 use Rattle.waiting.proofs.pairs.count_new.Goals as goal
 use Rattle.waiting.proofs.pairs.count_new.Goals.{then-not-is_known, else-not-is_known}

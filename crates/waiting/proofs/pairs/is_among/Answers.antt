@@ -1,4 +1,4 @@
-use Rattle.std.proofs.Common.{◌≡◌, sym, refl, ap, ◌∙◌, arith, rules}
+use Rattle.std.proofs.Common.{sym, ◌∙◌, arith, rules}
 use Rattle.waiting.proofs.Steps.{among_more, among_end}
 use Rattle.waiting.proofs.pairs.is_among.Goals as goal
 

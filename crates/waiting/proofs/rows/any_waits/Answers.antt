@@ -1,4 +1,4 @@
-use Rattle.std.proofs.Common.{◌≡◌, sym, refl, ap, ◌∙◌, arith, rules}
+use Rattle.std.proofs.Common.{sym, ◌∙◌, arith, rules}
 use Rattle.waiting.proofs.Steps.{any_more, any_end}
 use Rattle.waiting.proofs.rows.any_waits.Goals as goal
 

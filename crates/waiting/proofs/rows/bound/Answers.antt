@@ -1,4 +1,4 @@
-use Rattle.std.proofs.Common.{◌≡◌, sym, refl, ap, ◌∙◌, arith}
+use Rattle.std.proofs.Common.{sym, ◌∙◌, arith}
 use Rattle.waiting.proofs.Steps.{bound_start, bound_up, bound_down, bound_done}
 use Rattle.waiting.proofs.rows.bound.Goals as goal
 

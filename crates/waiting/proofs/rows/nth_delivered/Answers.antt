@@ -1,4 +1,4 @@
-use Rattle.std.proofs.Common.{◌≡◌, ◌+◌, drop, sym, refl, ap, ◌∙◌, arith}
+use Rattle.std.proofs.Common.{◌+◌, drop, sym, ap, ◌∙◌, arith}
 use Rattle.waiting.specs.Groups.{nth_delivered}
 use Rattle.waiting.proofs.Steps.{nth_here, nth_later, nth_other, nth_end}
 use Rattle.waiting.proofs.rows.nth_delivered.Goals as goal

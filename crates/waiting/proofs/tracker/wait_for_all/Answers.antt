@@ -1,4 +1,4 @@
-use Rattle.std.proofs.Common.{◌≡◌, sym, refl, ap, ◌∙◌, arith}
+use Rattle.std.proofs.Common.{sym, ◌∙◌, arith}
 use Rattle.tables.specs.Tables.{tab_of}
 use Rattle.waiting.proofs.Steps.{wait_more, wait_end}
 use Rattle.waiting.proofs.tracker.wait_for_all.Goals as goal
