@@ -1,5 +1,5 @@
 -- What a caller may know of the numbers of slips.
-use Rattle.std.proofs.Common.{◌≡◌, ℕ, zero, suc, ◌<◌, ◌≤◌, Bool, true, false, cond, ltb, List, is_some, Some, None, Option, sym, refl, ap, ◌∙◌, subst, arith, ltb-true}
+use Rattle.std.proofs.Common.{◌≡◌, ℕ, zero, suc, ◌<◌, Bool, true, false, cond, ltb, List, is_some, Some, None, Option, sym, refl, ap, ◌∙◌, subst, arith, ltb-true}
 use Rattle.trackers.specs.declared.slips.SlipRow.{SlipRow}
 use Rattle.trackers.specs.Slips.{Slipped, slip_row, wrapped, number_after, number_first, free_from, next_slip}
 

@@ -1,4 +1,4 @@
-use Rattle.std.proofs.Common.{◌≡◌, ◌-◌, is_some, sym, refl, ap, ◌∙◌, arith}
+use Rattle.std.proofs.Common.{◌-◌, is_some, sym, ap, ◌∙◌, arith}
 use Rattle.tables.specs.Tables.{tab_of}
 use Rattle.trackers.specs.Slips.{free_from}
 use Rattle.trackers.proofs.Steps.{free_here, free_next, free_end}

@@ -1,4 +1,4 @@
-use Rattle.std.proofs.Common.{◌≡◌, sym, refl, ap, ◌∙◌, arith}
+use Rattle.std.proofs.Common.{sym, ◌∙◌, arith}
 use Rattle.tables.specs.Tables.{tab_of}
 use Rattle.trackers.proofs.Steps.{add_more, add_end}
 use Rattle.trackers.proofs.targets.aim_at_all.Goals as goal
