@@ -2,4 +2,3 @@ pub mod Bounds
 pub mod Means
 pub mod Scores
 pub mod Quotients
-pub mod ScoreRatingLemmas

@@ -1,7 +1,6 @@
 -- What a record makes of a score.
-use Rattle.std.specs.Prelude.{ℕ, ◌+◌, ◌*◌, ◌/◌, ◌≤◌, min, max, Some, None, Option}
+use Rattle.std.specs.Prelude.{ℕ, Some, None, Option}
 use Rattle.std.proofs.Common.{arith}
-use Rattle.score.specs.Bounds.{most_bytes, most_time, fraction}
 use Rattle.score.specs.Means.{scaled, charged, halfway, weighed}
 use Rattle.score.specs.declared.means.Means.{Means}
 

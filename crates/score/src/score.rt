@@ -3,7 +3,7 @@ ghost use Rattle.std.specs.Prelude.{◌≡◌, ℕ, ◌+◌, ◌*◌, ◌/◌, �
 ghost use Rattle.score.specs.Bounds.{most_bytes, most_time, fraction, nanoseconds};
 ghost use Rattle.score.specs.Means.{scaled, charged, halfway, weighed};
 ghost use Rattle.score.specs.Scores.{means_after, weight_of};
-ghost use Rattle.score.specs.ScoreRatingLemmas.{bounded};
+ghost use Rattle.score.specs.Quotients.{bounded};
 ghost use Rattle.std.proofs.Common.{rules};
 
 use crate::means::Means;

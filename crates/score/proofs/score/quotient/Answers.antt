@@ -4,4 +4,4 @@ use Rattle.score.proofs.score.quotient.Goals as goal
 
 pub returns : goal.returns
 returns c =
-    ap (λ n. n / c.args.means.time) c.nano-bytes.ensures ∙ quotient_steps c.args.means.size c.args.means.time
+    ap (λ n. n / c.args.means.time) c.nano_bytes.ensures ∙ quotient_steps c.args.means.size c.args.means.time

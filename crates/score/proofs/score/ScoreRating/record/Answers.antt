@@ -11,5 +11,5 @@ of m = record { means = Some m }
 pub returns : goal.returns
 returns c =
     ap of
-    (means_same c.means-with.result (means_after c.args.self.now.means c.args.elapsed c.args.size)
-    c.means-with.ensures.size c.means-with.ensures.time)
+    (means_same c.means_with.result (means_after c.args.self.now.means c.args.elapsed c.args.size)
+    c.means_with.ensures.size c.means_with.ensures.time)
