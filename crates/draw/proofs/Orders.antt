@@ -1,5 +1,5 @@
 -- The order in which rows are drawn: one pick and then the rest, each row left once.
-use Rattle.std.proofs.Common.{◌≡◌, ℕ, zero, suc, ◌+◌, ◌<◌, ◌≤◌, true, cond, eqb, List, [], ◌∷◌, length, get_or, Some, None, Option, sym, refl, ap, ◌∙◌, subst, ⊎_elim, add-one, arith}
+use Rattle.std.proofs.Common.{◌≡◌, ℕ, zero, suc, ◌+◌, ◌<◌, true, cond, eqb, List, [], ◌∷◌, length, get_or, Some, None, Option, sym, refl, ap, ◌∙◌, ⊎_elim, add-one, arith}
 use Rattle.std.proofs.lemmas.Bool.{cases_eq, eq-eqb, ne_eqb, cond-true, cond-false}
 use Rattle.std.proofs.lemmas.List.{get_or-set_same, get_or-set_other}
 use Rattle.draw.specs.Fits.{drawn_below}
@@ -7,7 +7,7 @@ use Rattle.draw.proofs.Picks.{some_left, running, reach_part, pick_some, fewer_l
 use Rattle.draw.specs.Words.{drawn, rest}
 use Rattle.draw.specs.declared.rows.Share.{Share}
 use Rattle.draw.specs.declared.rows.By.TheVariants.{Head}
-use Rattle.draw.specs.Rows.{part, pick, words_after, without, total, manner_of, choice, reach, nobody}
+use Rattle.draw.specs.Rows.{part, pick, words_after, without, total, manner_of, reach, nobody}
 use Rattle.draw.specs.Order.{picks, picks_words, order, order_words, times, Once}
 
 pub picks_step : (n : ℕ) (xs : List Share) (retries : ℕ) (w : ℕ → ℕ) (p : ℕ) → Some p ≡ pick xs retries w → picks (suc n) xs retries w ≡ p ∷ picks n (without xs p) retries (words_after xs retries w)

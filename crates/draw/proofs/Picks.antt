@@ -1,6 +1,6 @@
 -- What is left to draw from, and what setting a row aside leaves.
-use Rattle.std.proofs.Common.{◌≡◌, ℕ, zero, suc, ◌+◌, ◌*◌, ◌%◌, ◌^◌, ◌<◌, ◌≤◌, Bool, true, false, cond, eqb, ltb, List, [], ◌∷◌, map, length, get_or, take, set, Some, None, sym, refl, ap, ◌∙◌, inl, inr, ⊎_elim, arith}
-use Rattle.std.proofs.lemmas.Bool.{eq-eqb, cases_lt, cases_Bool, ltb-true, ltb-false, eqb-true, eqb-false, cond_both, cond-true, cond-false, lt-ltb, le-ltb, ne_eqb}
+use Rattle.std.proofs.Common.{◌≡◌, ℕ, zero, suc, ◌+◌, ◌<◌, ◌≤◌, true, false, cond, eqb, ltb, List, [], ◌∷◌, length, get_or, take, Some, sym, refl, ap, ◌∙◌, ⊎_elim, arith}
+use Rattle.std.proofs.lemmas.Bool.{eq-eqb, cases_lt, eqb-true, eqb-false, cond_both, cond-true, cond-false, lt-ltb, le-ltb, ne_eqb}
 use Rattle.draw.specs.declared.rows.Share.{Share}
 use Rattle.draw.specs.declared.rows.By.{By}
 use Rattle.draw.specs.declared.rows.By.TheVariants.{Weight, Head}

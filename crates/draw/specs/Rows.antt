@@ -1,5 +1,5 @@
 -- The draw without replacement over rows of weights.
-use Rattle.std.specs.Prelude.{◌≡◌, ℕ, suc, ◌+◌, ◌<◌, ◌≤◌, Bool, true, false, cond, List, [], ◌∷◌, map, length, take, set, Some, None, Option, ◌==◌, nat_lt, slice_index_or, slice_set}
+use Rattle.std.specs.Prelude.{◌≡◌, ℕ, suc, ◌+◌, ◌<◌, ◌≤◌, true, false, cond, List, [], ◌∷◌, map, length, take, Some, None, Option, ◌==◌, nat_lt, slice_index_or, slice_set}
 use Rattle.draw.specs.Words.{drawn, rest}
 use Rattle.draw.specs.declared.rows.Share.{Share}
 use Rattle.draw.specs.declared.rows.By.{By}

@@ -10,13 +10,13 @@ use std::alloc::{AllocError, Global};
 // Picks a row of those left, and sets it aside.
 fn draw_row<D: DrawSource>(shares: &mut [Share], source: &mut D, retries: u32) -> Option<usize>
     requires { heft shares.old < 2 ^ 64 }
-    ensures place { result ≡ pick shares.old retries (ahead source.old) }
+    ensures place { result ≡ pick shares.old retries (D.ahead source.old) }
     ensures rows { shares.new ≡ rows_after shares.old result }
-    ensures words { ahead source.new ≡ words_after shares.old retries (ahead source.old) }
+    ensures words { D.ahead source.new ≡ words_after shares.old retries (D.ahead source.old) }
     ensures back { all_back shares.new ≡ all_back shares.old }
     ensures weight { heft shares.new ≡ heft shares.old }
     ensures fewer { Fewer shares.old shares.new result }
-    ensures around { Around shares.old retries (ahead source.old) result }
+    ensures around { Around shares.old retries (D.ahead source.old) result }
 {
     let left = left_of(shares);
     if left.heads == 0 {
@@ -55,13 +55,13 @@ impl<'a> Selection<'a> {
     // The next row, set aside; none, and no word drawn, once no row is left.
     pub fn next<D: DrawSource>(&mut self, source: &mut D, retries: u32) -> Option<usize>
         requires { heft self.old.shares.now < 2 ^ 64 }
-        ensures place { result ≡ pick self.old.shares.now retries (ahead source.old) }
+        ensures place { result ≡ pick self.old.shares.now retries (D.ahead source.old) }
         ensures rows { self.new.shares.now ≡ rows_after self.old.shares.now result }
-        ensures words { ahead source.new ≡ words_after self.old.shares.now retries (ahead source.old) }
+        ensures words { D.ahead source.new ≡ words_after self.old.shares.now retries (D.ahead source.old) }
         ensures back { all_back self.new.shares.now ≡ all_back self.old.shares.now }
         ensures weight { heft self.new.shares.now ≡ heft self.old.shares.now }
         ensures fewer { Fewer self.old.shares.now self.new.shares.now result }
-        ensures around { Around self.old.shares.now retries (ahead source.old) result }
+        ensures around { Around self.old.shares.now retries (D.ahead source.old) result }
         ensures lender { self.new.shares.ghost_name ≡ self.old.shares.ghost_name }
     {
         draw_row(self.shares, source, retries)
@@ -86,9 +86,9 @@ fn draw_all<D: DrawSource>(
     requires fits { heft shares.old < 2 ^ 64 }
     requires empty { places.old.items ≡ [] }
     requires room { vec_len places.old + length shares.old ≤ vec_capacity places.old }
-    ensures items { places.new.items ≡ order shares.old retries (ahead source.old) }
+    ensures items { places.new.items ≡ order shares.old retries (D.ahead source.old) }
     ensures once { Once shares.old places.new.items }
-    ensures words { ahead source.new ≡ order_words shares.old retries (ahead source.old) }
+    ensures words { D.ahead source.new ≡ order_words shares.old retries (D.ahead source.old) }
     ensures back { shares.new ≡ all_back shares.old }
 {
     let mut selection = Selection::new(shares);
@@ -106,9 +106,9 @@ pub fn order_of<D: DrawSource>(
     retries: u32,
 ) -> Result<Vec<usize>, AllocError>
     requires { heft shares.old < 2 ^ 64 }
-    ensures places { IfOk result (λ v. v.items ≡ order shares.old retries (ahead source.old)) }
+    ensures places { IfOk result (λ v. v.items ≡ order shares.old retries (D.ahead source.old)) }
     ensures once { IfOk result (λ v. Once shares.old v.items) }
-    ensures words { ahead source.new ≡ (if is_ok result then order_words shares.old retries (ahead source.old) else ahead source.old) }
+    ensures words { D.ahead source.new ≡ (if is_ok result then order_words shares.old retries (D.ahead source.old) else D.ahead source.old) }
     ensures rows { shares.new ≡ (if is_ok result then all_back shares.old else shares.old) }
 {
     let mut places = Vec::with_capacity(heap, shares.len())?;

@@ -19,8 +19,8 @@ pub trait DrawSource {
 // The next word modulo `n`. It is the one place where a word becomes a number below another.
 pub(crate) fn below<D: DrawSource>(source: &mut D, n: u64) -> u64
     requires { 0 < n }
-    ensures value { result ≡ drawn n (ahead source.old) }
-    ensures after { ahead source.new ≡ rest n (ahead source.old) }
+    ensures value { result ≡ drawn n (D.ahead source.old) }
+    ensures after { D.ahead source.new ≡ rest n (D.ahead source.old) }
 {
     source.word() % n
 }

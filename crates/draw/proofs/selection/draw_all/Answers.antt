@@ -1,4 +1,4 @@
-use Rattle.std.proofs.Common.{◌≡◌, ◌+◌, ◌<◌, ◌≤◌, List, [], ◌∷◌, ◌++◌, length, vec_items, sym, refl, ap, ◌∙◌, subst, append_assoc, append-nil, arith, rules}
+use Rattle.std.proofs.Common.{◌≡◌, ◌+◌, [], ◌∷◌, ◌++◌, length, vec_items, sym, refl, ap, ◌∙◌, subst, append_assoc, append-nil, arith, rules}
 use Rattle.draw.specs.declared.rows.By.TheVariants.{Head}
 use Rattle.draw.specs.Rows.{heft, total, without, words_after}
 use Rattle.draw.specs.Order.{order, order_words, Once}
@@ -33,13 +33,13 @@ loop-place-preserved g c =
     let before = vec_items c.loop-place.places in (
       e.lender ∙ c.loop-place.invariant.0,
       e.back ∙ c.loop-place.invariant.1,
-      ap (λ l. l ++ order ys r v) c.push-reserved.ensures.items
+      ap (λ l. l ++ order ys r v) c.push_reserved.ensures.items
           ∙ ap (λ l. (before ++ p ∷ []) ++ l) next
           ∙ append_assoc before (p ∷ []) rest
           ∙ ap (λ l. before ++ l) (sym (order_step xs r w p e.place fewer))
           ∙ c.loop-place.invariant.2,
       drawn ∙ sym (order_words_step xs r w p e.place fewer) ∙ c.loop-place.invariant.3,
-      omega (arith, e.fewer.1, c.push-reserved.ensures.len, c.push-reserved.ensures.capacity, c.loop-place.invariant.4),
+      omega (arith, e.fewer.1, c.push_reserved.ensures.len, c.push_reserved.ensures.capacity, c.loop-place.invariant.4),
     )
 
 pub loop-place-init : goal.loop-place-init
@@ -48,7 +48,7 @@ loop-place-init g c =
 
 pub returns : goal.returns
 returns g c =
-    let e = c.in-default.ensures in
+    let e = c.in_default.ensures in
     let xs = c.loop-place.selection.shares.now in
     let r = c.args.retries in
     let w = g.D.DrawSource.ahead c.loop-place.source in

@@ -6,7 +6,7 @@ use Rattle.draw.proofs.selection.draw_all.Given as goal
 
 abbrev pub invariant-loop-place : goal.invariant-loop-place
 invariant-loop-place g l =
-    (l.selection.shares.name ≡ l.initial.selection.shares.name)
+    (l.selection.shares.ghost_name ≡ l.initial.selection.shares.ghost_name)
     × (all_back l.selection.shares.now ≡ all_back l.initial.selection.shares.now)
     × (vec_items l.places ++ order l.selection.shares.now l.retries (g.D.DrawSource.ahead l.source)
     ≡ vec_items l.initial.places ++ order l.initial.selection.shares.now l.retries (g.D.DrawSource.ahead l.initial.source))

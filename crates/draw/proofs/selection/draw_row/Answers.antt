@@ -1,4 +1,4 @@
-use Rattle.std.proofs.Common.{◌≡◌, ℕ, ◌+◌, ◌<◌, sym, refl, ap, ◌∙◌, subst, arith}
+use Rattle.std.proofs.Common.{◌≡◌, ◌+◌, ◌<◌, sym, ap, ◌∙◌, subst, arith}
 use Rattle.draw.specs.declared.rows.By.TheVariants.{Head}
 use Rattle.draw.specs.Words.{drawn, rest}
 use Rattle.draw.specs.Rows.{total, manner, manner_of, without, all_back, Spans}
@@ -8,8 +8,8 @@ use Rattle.draw.proofs.selection.draw_row.Goals as goal
 
 pub below-x-requires : goal.below-x-requires
 below-x-requires g c =
-    let by = c.manner-of-by.result in
-    let l = c.left-of-left in
+    let by = c.manner_of-by.result in
+    let l = c.left_of-left in
     omega (
       arith,
       some_left by c.args.shares.now (omega (arith, l.ensures.heads)),
@@ -17,10 +17,10 @@ below-x-requires g c =
       left_total by l.result c.args.shares.now l.ensures.weight l.ensures.heads,
     )
 
-pub place-of-place-requires : goal.place-of-place-requires
-place-of-place-requires g c =
-    let by = c.manner-of-by.result in
-    let l = c.left-of-left in
+pub place_of-place-requires : goal.place_of-place-requires
+place_of-place-requires g c =
+    let by = c.manner_of-by.result in
+    let l = c.left_of-left in
     let sum : c.by-sum.result ≡ total by c.args.shares.now =
     c.by-sum.ensures ∙ left_total by l.result c.args.shares.now l.ensures.weight l.ensures.heads in
     let some = some_left by c.args.shares.now (omega (arith, l.ensures.heads)) in
@@ -34,14 +34,14 @@ returns g c =
     let xs = c.args.shares.now in
     let w = g.D.DrawSource.ahead c.args.source.now in
     let v = rest (c.args.retries + 4) w in
-    let by = c.manner-of-by.result in
-    let l = c.left-of-left in
+    let by = c.manner_of-by.result in
+    let l = c.left_of-left in
     let x = c.below-x.result in
-    let p = c.place-of-place.result in
+    let p = c.place_of-place.result in
     let heads : 0 < total Head xs = omega (arith, l.ensures.heads) in
     let some = some_left by xs heads in
     let first : by ≡ manner_of c.args.retries w =
-    c.manner-of-by.ensures ∙ ap manner (c.below.ensures.value ∙ ap (λ n. drawn (n + 4) w) c.from.ensures) in
+    c.manner_of-by.ensures ∙ ap manner (c.below.ensures.value ∙ ap (λ n. drawn (n + 4) w) c.from.ensures) in
     let ahead : g.D.DrawSource.ahead c.below.new.source ≡ v =
     c.below.ensures.after ∙ ap (λ n. rest (n + 4) w) c.from.ensures in
     let sum : c.by-sum.result ≡ total by xs =
@@ -49,22 +49,22 @@ returns g c =
     let second : x ≡ drawn (total by xs) v =
     c.below-x.ensures.value ∙ ap (λ f. drawn c.by-sum.result f) ahead ∙ ap (λ n. drawn n v) sum in
     let within : x < total by xs = omega (arith, second, drawn_below (total by xs) v some) in
-    let gone : c.set-aside.new.shares ≡ without xs p = c.set-aside.ensures in
+    let gone : c.set_aside.new.shares ≡ without xs p = c.set_aside.ensures in
     let same = ap all_back gone ∙ back_without xs p in
-    let here : Spans by xs x p = subst (λ q. Spans by xs x q) (sym c.place-of-place.ensures.value) (running by xs x within) in
+    let here : Spans by xs x p = subst (λ q. Spans by xs x q) (sym c.place_of-place.ensures.value) (running by xs x within) in
     record {
-      place = pick_some xs c.args.retries w by x p heads first second c.place-of-place.ensures.value;
+      place = pick_some xs c.args.retries w by x p heads first second c.place_of-place.ensures.value;
       rows = gone;
       words = c.below-x.ensures.after
           ∙ ap (λ f. rest c.by-sum.result f) ahead
           ∙ ap (λ n. rest n v) sum
           ∙ words_some xs c.args.retries w by heads first;
       back = same;
-      weight = heft_same c.set-aside.new.shares xs same;
+      weight = heft_same c.set_aside.new.shares xs same;
       fewer = (
-        c.place-of-place.ensures.within,
+        c.place_of-place.ensures.within,
         ap (λ ys. total Head ys + 1) gone
-            ∙ fewer_left by xs x p within c.place-of-place.ensures.value c.place-of-place.ensures.within,
+            ∙ fewer_left by xs x p within c.place_of-place.ensures.value c.place_of-place.ensures.within,
       );
       around = subst (λ b. Spans b xs (drawn (total b xs) v) p) first (subst (λ n. Spans by xs n p) second here);
     }
