@@ -4,7 +4,7 @@ use Rattle.kinds.specs.declared.storable.Storable.{Ghosts as Form}
 use Rattle.link.specs.declared.words.Message.{Message}
 use Rattle.link.specs.declared.outbox.Outbox.{Outbox}
 use Rattle.link.specs.Frames.{frame, frame_len, frames}
-use Rattle.link.specs.Boxes.{bytes_of, Try, taken, last_of, Empty, Step, Run, Holds, HoldsTaken}
+use Rattle.link.specs.Boxes.{bytes_of, Try, taken, last_of, Empty, Step, Run, HoldsTaken}
 
 module _ {P K : Type 0} (p : Form P) (k : Form K) where
   -- a frame is as long as the widths of its kinds say

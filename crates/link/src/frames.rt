@@ -67,11 +67,11 @@ fn put_field<T: Storable>(out: &mut Vec<u8>, tag: u8, x: &T)
 
 // Appends a message.
 pub(crate) fn put_frame<P: Storable, K: Storable>(out: &mut Vec<u8>, message: &Message<P, K>)
-    requires { vec_len out.old + frame_len P.Storable K.Storable ≤ vec_capacity out.old }
-    ensures items { out.new.items ≡ out.old.items ++ frame P.Storable K.Storable message.now }
-    ensures len { vec_len out.new ≡ vec_len out.old + frame_len P.Storable K.Storable }
+    requires { vec_len out.old + frame_len P.Storable.own K.Storable.own ≤ vec_capacity out.old }
+    ensures items { out.new.items ≡ out.old.items ++ frame P.Storable.own K.Storable.own message.now }
+    ensures len { vec_len out.new ≡ vec_len out.old + frame_len P.Storable.own K.Storable.own }
     ensures capacity { vec_capacity out.old ≤ vec_capacity out.new }
-    ensures size { length (frame P.Storable K.Storable message.now) ≡ frame_len P.Storable K.Storable }
+    ensures size { length (frame P.Storable.own K.Storable.own message.now) ≡ frame_len P.Storable.own K.Storable.own }
 {
     put_id(out, message.id);
     put_field(out, 2, &message.peer);
@@ -80,7 +80,7 @@ pub(crate) fn put_frame<P: Storable, K: Storable>(out: &mut Vec<u8>, message: &M
 
 // How long a message is.
 pub(crate) fn frame_len<P: Storable, K: Storable>() -> usize
-    ensures { result ≡ frame_len P.Storable K.Storable }
+    ensures { result ≡ frame_len P.Storable.own K.Storable.own }
 {
     let id = 3 + 8;
     let peer = 3 + P::size() as usize;

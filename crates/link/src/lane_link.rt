@@ -4,7 +4,7 @@ ghost use Rattle.link.specs.declared.lane.Lane.TheVariants.{Closed, Free};
 ghost use Rattle.link.specs.Lanes.{lane_of, Within, free_from, free_after, InTime};
 ghost use Rattle.link.specs.LaneCalls.{number_of, Opened, station_word, ChangedIf, Passed};
 ghost use Rattle.link.specs.Meaning.{Sends};
-ghost use Rattle.std.proofs.Common.{rules, arith};
+ghost use Rattle.std.proofs.Common.{rules};
 
 use crate::Link;
 use crate::lane::{Lane, Refusal};
@@ -146,7 +146,7 @@ impl<K: Ordered> Link<Station, K> for Lanes<K> {
 
     ghost latest = { λ l. l.tally.latest };
 
-    ghost later = { first_of (Prim.search rules, Prim.grind (arith, Self.row.coded.inj)) };
+    ghost later = { Prim.search rules };
 
     fn check(&self, peer: Station, time: u64) -> Result<Pass<Station>, u64> {
         match self.lane(peer) {

@@ -2,7 +2,7 @@
 ghost use Rattle.std.specs.Prelude.{◌≡◌, ◌≤◌, [], length, IfOk, vec_len, vec_capacity};
 ghost use Rattle.link.specs.Meaning.{Sends, message_of};
 ghost use Rattle.link.specs.Boxes.{bytes_of, fits, box_word, Empty, Step, HoldsTaken};
-ghost use Rattle.std.proofs.Common.{rules, arith};
+ghost use Rattle.std.proofs.Common.{rules};
 
 use crate::Link;
 use crate::frames::{frame_len, put_frame};
@@ -19,7 +19,7 @@ fn empty<P: Storable, K: Storable>(bytes: Vec<u8>, room: usize) -> Outbox<P, K>
     requires len { vec_len bytes ≡ 0 }
     requires capacity { room ≤ vec_capacity bytes }
     ensures empty { Empty room result }
-    ensures taken { HoldsTaken P.Storable K.Storable result }
+    ensures taken { HoldsTaken P.Storable.own K.Storable.own result }
 {
     Outbox {
         bytes,
@@ -32,7 +32,7 @@ impl<P: Storable, K: Storable> Outbox<P, K> {
     // An empty outbox with memory for some bytes, or the want of it. After any sends it holds exactly the messages
     // that were accepted.
     pub fn new(heap: Global, room: usize) -> Result<Outbox<P, K>, AllocError>
-        ensures { IfOk result (λ o. Empty room o × HoldsTaken P.Storable K.Storable o) }
+        ensures { IfOk result (λ o. Empty room o × HoldsTaken P.Storable.own K.Storable.own o) }
     {
         let bytes = Vec::with_capacity(heap, room)?;
         Ok(empty(bytes, room))
@@ -40,7 +40,7 @@ impl<P: Storable, K: Storable> Outbox<P, K> {
 
     // Whether one more message fits.
     fn fits(&self) -> bool
-        ensures { result ≡ fits P.Storable K.Storable self.now }
+        ensures { result ≡ fits P.Storable.own K.Storable.own self.now }
     {
         frame_len::<P, K>() <= self.room - self.bytes.len()
     }
@@ -82,21 +82,21 @@ impl<P: Storable, K: Storable> Outbox<P, K> {
 }
 
 impl<P: Storable, K: Storable> Link<P, K> for Outbox<P, K> {
-    ghost word = { box_word P.Storable K.Storable };
+    ghost word = { box_word P.Storable.own K.Storable.own };
 
     ghost count = { λ l. l.tally.count };
 
     ghost latest = { λ l. l.tally.latest };
 
-    ghost later = { first_of (Prim.search rules, Prim.grind (arith, Self.row.coded.inj)) };
+    ghost later = { Prim.search rules };
 
     fn check(&self, peer: P, time: u64) -> Result<Pass<P>, u64> {
         Ok(Pass { peer, time })
     }
 
     fn send(&mut self, pass: Pass<P>, id: u64, key: K) -> bool
-        ensures sends { Sends (box_word P.Storable K.Storable) (λ l. l.tally.count) (λ l. l.tally.latest) self.old pass id key result self.new }
-        ensures step { Step P.Storable K.Storable self.old (message_of pass id key) result self.new }
+        ensures sends { Sends (box_word P.Storable.own K.Storable.own) (λ l. l.tally.count) (λ l. l.tally.latest) self.old pass id key result self.new }
+        ensures step { Step P.Storable.own K.Storable.own self.old (message_of pass id key) result self.new }
     {
         let Pass { peer, time: _ } = pass;
         if !self.fits() {
