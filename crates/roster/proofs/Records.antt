@@ -1,11 +1,10 @@
 -- A record that is stored is the one that is defined.
-use Rattle.std.proofs.Common.{◌≡◌, ℕ, ◌<◌, List, length, get_or, set, Some, None, Ok, Err, Option, sym, refl, ap, ◌∙◌}
+use Rattle.std.proofs.Common.{◌≡◌, ℕ, ◌<◌, List, length, get_or, set, Some, Ok, refl, ap, ◌∙◌}
 use Rattle.kinds.specs.declared.ordered.Ordered.{Ghosts as Order}
 use Rattle.score.specs.declared.rating.Rating.{Ghosts as Rate}
-use Rattle.tables.specs.Rows.{place_of, row_at}
+use Rattle.tables.specs.Rows.{place_of}
 use Rattle.tables.proofs.Halving.{row_at_get_or}
 use Rattle.roster.specs.declared.row.PeerRow.{PeerRow}
-use Rattle.roster.specs.Weights.{changed_at}
 use Rattle.roster.specs.Peers.{peer_of, rerated, rerated_at, rerated_in, weight_at, new_weight}
 use Rattle.roster.proofs.Shares.{changed_set}
 

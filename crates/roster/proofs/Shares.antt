@@ -1,5 +1,5 @@
 -- What shares weigh together, and at most.
-use Rattle.std.proofs.Common.{◌≡◌, ℕ, zero, suc, ◌+◌, ◌*◌, ◌^◌, ◌<◌, ◌≤◌, max, Bool, true, false, cond, eqb, List, [], ◌∷◌, length, get_or, set, Option, sym, refl, ap, ◌∙◌, suc-mul, mul-le-mul, arith}
+use Rattle.std.proofs.Common.{◌≡◌, ℕ, zero, suc, ◌*◌, ◌^◌, ◌<◌, ◌≤◌, Bool, true, false, cond, eqb, List, [], ◌∷◌, length, get_or, set, Option, refl, ap, ◌∙◌, suc-mul, arith}
 use Rattle.kinds.specs.declared.ordered.Ordered.{Ghosts as Order}
 use Rattle.score.specs.Bounds.{most_weight}
 use Rattle.score.specs.declared.rating.Rating.{Ghosts as Rate}

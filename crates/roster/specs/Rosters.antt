@@ -1,12 +1,12 @@
 -- What a roster holds, and what each call makes of it.
-use Rattle.std.specs.Prelude.{◌≡◌, ℕ, ◌<◌, ◌≤◌, Bool, cond, List, [], length, Some, None, Ok, Err, vec_items, Option, Result, nat_le}
+use Rattle.std.specs.Prelude.{◌≡◌, ℕ, ◌<◌, ◌≤◌, cond, List, [], length, Some, None, Ok, Err, vec_items, Option, Result, nat_le}
 use Rattle.kinds.specs.declared.ordered.Ordered.{Ghosts as Order}
 use Rattle.score.specs.declared.rating.Rating.{Ghosts as Rate}
 use Rattle.draw.specs.declared.rows.Share.{Share}
 use Rattle.tables.specs.declared.row.Only.{Only}
 use Rattle.tables.specs.declared.table.error.TableError.{TableError}
 use Rattle.tables.specs.declared.table.error.TableError.TheVariants.{Rows, Memory}
-use Rattle.tables.specs.Rows.{place_of, at_place, row_at, lookup}
+use Rattle.tables.specs.Rows.{place_of, at_place}
 use Rattle.tables.specs.Tables.{Tab, with_rows, Outside}
 use Rattle.roster.specs.declared.row.PeerRow.{PeerRow}
 use Rattle.roster.specs.declared.participants.Participants.{Participants}

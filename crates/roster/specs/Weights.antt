@@ -1,5 +1,5 @@
 -- Shares of a draw.
-use Rattle.std.specs.Prelude.{ℕ, zero, suc, max, Bool, cond, List, [], ◌∷◌, Some, None, Option, ◌==◌}
+use Rattle.std.specs.Prelude.{ℕ, zero, suc, max, cond, List, [], ◌∷◌, Some, None, Option, ◌==◌}
 use Rattle.draw.specs.declared.rows.Share.{Share}
 
 -- the greatest weight

@@ -16,7 +16,7 @@ use score::Rating;
 // The peers in their order with their ratings, and beside each its share of a draw, none set aside. `spare` is memory
 // for the next roster, empty between calls. All weights together stay below 2^64.
 #[derive(Drop)]
-pub struct Participants<P: Ordered, V: Rating> {
+pub struct Participants<P: Copy, V: Copy> {
     engine: u32,
     most: usize,
     pub rows: Vec<PeerRow<P, V>>,

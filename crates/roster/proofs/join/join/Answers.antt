@@ -1,4 +1,4 @@
-use Rattle.std.proofs.Common.{◌≡◌, ◌+◌, [], ◌∷◌, ◌++◌, length, drop, vec_items, Less, Equal, Greater, sym, refl, ap, ◌∙◌, arith}
+use Rattle.std.proofs.Common.{◌≡◌, ◌+◌, [], ◌∷◌, ◌++◌, drop, vec_items, Less, Equal, Greater, refl, ap, ◌∙◌, arith}
 use Rattle.roster.specs.Peers.{joined}
 use Rattle.roster.proofs.Joins.{nothing_before, turn_new, turn_less, turn_equal, turn_greater, join_all}
 use Rattle.roster.proofs.join.join.Goals as goal

@@ -1,4 +1,4 @@
-use Rattle.std.proofs.Common.{◌≡◌, ◌<◌, ◌≤◌, length, set, vec_items, sym, refl, ap, ◌∙◌, subst, arith, rules}
+use Rattle.std.proofs.Common.{◌≡◌, ◌≤◌, length, set, vec_items, sym, refl, ap, ◌∙◌, subst, arith}
 use Rattle.score.specs.Bounds.{most_weight}
 use Rattle.draw.specs.Rows.{all_back}
 use Rattle.roster.specs.Weights.{heaviest, changed_at, reweighed}

@@ -1,11 +1,10 @@
-use Rattle.std.proofs.Common.{◌≡◌, ◌+◌, ◌^◌, ◌<◌, ◌≤◌, ◌∷◌, ◌++◌, length, drop, vec_items, sym, refl, ap, ◌∙◌, subst, arith}
+use Rattle.std.proofs.Common.{◌≡◌, ◌+◌, ◌≤◌, ◌∷◌, ◌++◌, length, drop, vec_items, sym, refl, ap, ◌∙◌, subst, arith}
 use Rattle.score.specs.Bounds.{most_weight}
-use Rattle.draw.specs.Rows.{all_back, heft}
+use Rattle.draw.specs.Rows.{all_back}
 use Rattle.tables.specs.Tables.{tab_of}
 use Rattle.tables.proofs.Steps.{made_over, made_all}
-use Rattle.roster.specs.Bounds.{most_peers}
 use Rattle.roster.specs.Weights.{heaviest}
-use Rattle.roster.specs.Peers.{shares_for, share_for}
+use Rattle.roster.specs.Peers.{shares_for}
 use Rattle.roster.proofs.Shares.{heft_fits, light_shares, back_shares, length_shares, shares_more, shares_none}
 use Rattle.roster.proofs.weights.weigh_all.Goals as goal
 
