@@ -4,7 +4,7 @@ use Rattle.draw.specs.declared.rows.Share.{Share}
 use Rattle.draw.specs.Rows.{all_back, heft}
 use Rattle.tables.specs.Tables.{tab_of}
 use Rattle.roster.specs.Weights.{heaviest}
-use Rattle.model.specs.Tries.{Fetched, told, limit}
+use Rattle.model.specs.Tries.{Fetched, limit}
 use Rattle.model.specs.Fetches.{aims}
 use Rattle.model.specs.Laws.{First, Quiet}
 use Rattle.model.proofs.Firsts.{first}
@@ -18,31 +18,19 @@ invariant_of-roster g c =
     let after = c.walk.new.shares in
     let long : length after ≡ r.shares.len = ap length c.walk.ensures.shares ∙ c.as_mut_slice.ensures.len in
     let same = take_at after (drop (length after) r.shares.items) r.shares.len long
-    ∙ c.walk.ensures.shares ∙ c.as_mut_slice.ensures.value in (
-      r.few,
-      (
-        r.within,
-        (
-          r.beside,
-          (
-            r.rows_reserved,
-            (
-              r.shares_reserved,
-              (
-                r.spare_reserved,
-                (
-                  r.spare_empty,
-                  (
-                    subst (λ l. heaviest l ≤ 1048576000000001) (sym same) r.light,
-                    (subst (λ l. heft l < 2 ^ 64) (sym same) r.fits, (ap all_back same ∙ r.back ∙ sym same, tt)),
-                  ),
-                ),
-              ),
-            ),
-          ),
-        ),
-      ),
-    )
+    ∙ c.walk.ensures.shares ∙ c.as_mut_slice.ensures.value in
+    record {
+      few = r.few;
+      within = r.within;
+      beside = r.beside;
+      rows_reserved = r.rows_reserved;
+      shares_reserved = r.shares_reserved;
+      spare_reserved = r.spare_reserved;
+      spare_empty = r.spare_empty;
+      light = subst (λ l. heaviest l ≤ 1048576000000001) (sym same) r.light;
+      fits = subst (λ l. heft l < 2 ^ 64) (sym same) r.fits;
+      back = ap all_back same ∙ r.back ∙ sym same;
+    }
 
 pub returns : goal.returns
 returns g c =

@@ -8,7 +8,7 @@ use Rattle.walk.proofs.tries.walk.Given as goal
 
 abbrev pub invariant-peers : goal.invariant-peers
 invariant-peers g l =
-    (l.selection.shares.name ≡ l.initial.selection.shares.name)
+    (l.selection.shares.ghost_name ≡ l.initial.selection.shares.ghost_name)
     × (all_back l.selection.shares.now ≡ all_back l.initial.selection.shares.now)
     × (l.link ≡ l.initial.link)
     × (l.sent ≡ l.initial.sent)
