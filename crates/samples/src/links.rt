@@ -55,7 +55,7 @@ mod tests {
         let frame: [u8; 27] = [
             1, 0, 8, 1, 2, 3, 4, 5, 6, 7, 8, 2, 0, 4, 10, 11, 12, 13, 3, 0, 6, 1, 2, 3, 4, 5, 6,
         ];
-        assert_eq!(rt; outbox.bytes(), &frame);
+        assert_eq!(rt; outbox.bytes(), frame.as_slice());
         assert_eq!(rt; outbox.len(), 27);
         Ok(())
     }
@@ -71,7 +71,7 @@ mod tests {
             7, 7, 7, 7, 7, 7, 7, 7, 7, 7, 7, 7, 7, 7, 7, 7, 7, 7, 3, 0, 32, 9, 9, 9, 9, 9, 9, 9, 9,
             9, 9, 9, 9, 9, 9, 9, 9, 9, 9, 9, 9, 9, 9, 9, 9, 9, 9, 9, 9, 9, 9, 9, 9,
         ];
-        assert_eq!(rt; outbox.bytes(), &frame);
+        assert_eq!(rt; outbox.bytes(), frame.as_slice());
         Ok(())
     }
 
