@@ -5,23 +5,30 @@
 #
 # An edit is a file of lines:
 #   file: PATH     the file of the crate that it changes
-#   old: TEXT      what stands there, exactly once; several such lines are lines that follow each other
+#   old: TEXT      what stands there, exactly once; under refused/, several such lines are lines that follow each other
 #   new: TEXT      what is put in its place, likewise
-#   error: NAME    the first error that the compiler must name; without this line the prover must refuse it
+#   error: NAME    under refused/, the first error that the compiler must name
+# Those under edits/ are as `rt must-fail` reads them: each old: and each new: is one line, and further pairs apply to what
+# the earlier ones made. The prover must refuse each, at something that the code has to keep.
 #
-# Prints a line for each edit. Exit status: 0 if each was refused with its error, 1 if not, 2 if nothing could be tried.
+# Prints a line for each edit. Exit status: 0 if each was refused as it must be, 1 if not, 2 if nothing could be tried.
 set -u
 
 root=$(cd "$(dirname "$0")" && pwd -P) || exit 2
+kind=${1:-refused}
 copy=$(mktemp -d) || exit 2
 trap 'rm -rf "$copy"' EXIT
 trap 'exit 2' HUP INT TERM
 
-# What is proved already is taken over, so that only the edited crate is checked.
-cp -r "$root/crates" "$root/crates.txt" "$copy/" || exit 2
-mkdir "$copy/target"
-for part in rlib stamp log; do
-    [ ! -d "$root/target/$part" ] || cp -r "$root/target/$part" "$copy/target/" || exit 2
+# The sources alone: what checks kept, on this machine, of crates with the same text is found by rt itself.
+mkdir "$copy/crates" && cp "$root/crates.txt" "$copy/" || exit 2
+[ ! -f "$root/HANDLES" ] || cp "$root/HANDLES" "$copy/" || exit 2
+for crate in "$root"/crates/*/; do
+    name=$(basename "$crate")
+    mkdir "$copy/crates/$name" || exit 2
+    for part in src specs proofs; do
+        [ ! -d "$crate$part" ] || cp -r "$crate$part" "$copy/crates/$name/" || exit 2
+    done
 done
 
 # The lines of an edit that begin with a word.
@@ -42,7 +49,7 @@ changed() { # FILE
         }' "$1"
 }
 
-# Tries one edit, and says what came of it.
+# Tries one program that must not compile, and says what came of it.
 try() { # EDIT
     crate=$(basename "$(dirname "$(dirname "$1")")")
     name=$crate/$(basename "$1" .edit)
@@ -53,27 +60,53 @@ try() { # EDIT
         return 1
     fi
     cp "$copy/edited" "$copy/$file"
-    (cd "$copy" && RT_CUT=0 rt dev "$crate") >"$copy/said" 2>&1
+    (cd "$copy/crates/$crate" && rt check) >"$copy/said" 2>&1
+    ended=$?
     cp "$root/$file" "$copy/$file"
-    if [ -z "$want" ]; then
-        grep -q 'logic=not-proved' "$copy/said" && { echo "refused: $name: by the prover"; return 0; }
-        echo "NOT REFUSED: $name: $(tail -n 1 "$copy/said" | cut -c1-200)"
-        return 1
-    fi
     first=$(grep -m 1 -o 'error\[[^]]*\].*' "$copy/said" | cut -c1-120)
-    case $first in
-    "error[$want]"*) echo "refused: $name: $first" ;;
-    '') echo "NOT REFUSED: $name: $(tail -n 1 "$copy/said" | cut -c1-200)"; return 1 ;;
-    *) echo "ANOTHER ERROR: $name: wanted error[$want], met $first"; return 1 ;;
+    case $ended:$first in
+    1:"error[$want]"*) echo "refused: $name: $first" ;;
+    *:error*) echo "ANOTHER ERROR: $name: wanted error[$want], met $first"; return 1 ;;
+    *) echo "NOT REFUSED: $name: $(tail -n 1 "$copy/said" | cut -c1-200)"; return 1 ;;
     esac
 }
 
+# Has rt try the further must-fail edits of all crates that have some, and says what came of each. What it refuses for a
+# name that is gone, or only by a limit of its own, shows nothing of what the code keeps, and so is no refusal here.
+try_further() {
+    set --
+    for edit in "$root"/crates/*/edits/*.edit; do
+        [ -f "$edit" ] || continue
+        crate=$(basename "$(dirname "$(dirname "$edit")")")
+        mkdir -p "$copy/crates/$crate/must-fail" && cp "$edit" "$copy/crates/$crate/must-fail/" || return 2
+        case " $* " in *" $crate "*) ;; *) set -- "$@" "$crate" ;; esac
+    done
+    [ $# -gt 0 ] || { echo "no edit to try under crates/*/edits/"; return 2; }
+    # Where a crate does not prove as it stands, every edit of it would be refused.
+    for crate in "$@"; do
+        (cd "$copy/crates/$crate" && rt check) >"$copy/said" 2>&1 && continue
+        echo "nothing tried: $crate is not proved as it stands: $(tail -n 1 "$copy/said" | cut -c1-200)"
+        return 2
+    done
+    (cd "$copy" && rt must-fail "$@") >"$copy/said" 2>&1
+    ended=$?
+    cut -c1-300 "$copy/said"
+    tried=$(find "$copy"/crates/*/must-fail -name '*.edit' | wc -l)
+    good=$(grep -cE '^rt: must-fail [^ ]+: refused, as it must be(: |$)' "$copy/said")
+    echo "further must-fail edits: $good of $tried refused at what the code must keep"
+    [ "$ended" -eq 0 ] && [ "$good" -eq "$tried" ]
+}
+
+if [ "$kind" = edits ]; then
+    try_further
+    exit $?
+fi
 status=0
 tried=0
-for edit in "$root"/crates/*/"${1:-refused}"/*.edit; do
+for edit in "$root"/crates/*/"$kind"/*.edit; do
     [ -f "$edit" ] || continue
     tried=$((tried + 1))
     try "$edit" || status=1
 done
-[ "$tried" -gt 0 ] || { echo "no edit to try under crates/*/${1:-refused}/"; exit 2; }
+[ "$tried" -gt 0 ] || { echo "no edit to try under crates/*/$kind/"; exit 2; }
 exit $status
