@@ -30,7 +30,7 @@ fn one_round(rt: &HostRuntime, text: &str, quickest: &mut Vec<u64>) -> anyhow::R
         match session.line(heap, &mut watch, line, &mut out) {
             Ok(()) => {}
             Err(Fault::NotYet) => {}
-            Err(fault) => return Err(fault.at(heap, i as u64)),
+            Err(fault) => return Err(fault.at(i as u64)),
         }
         let spent = watch.take();
         if i < quickest.len() {

@@ -1,5 +1,6 @@
 // Why a script is not carried on.
-use std::alloc::{AllocError, AllocFailed, Global};
+use anyhow::anyhow;
+use std::alloc::{AllocError, AllocFailed};
 
 // A line that is not understood, with what was expected in its place; a call that is not there yet; or want of memory.
 #[derive(Clone, Copy)]
@@ -23,15 +24,11 @@ impl<T: Drop> From<AllocFailed<T>> for Fault {
 
 impl Fault {
     // The error that names the line.
-    pub(crate) fn at(self, heap: Global, number: u64) -> anyhow::Error {
-        let text = match self {
-            Fault::Expected(expected) => format!(in heap; "line {number}: expected {expected}"),
-            Fault::NotYet => format!(in heap; "line {number}: this call is not there yet"),
-            Fault::Memory => format!(in heap; "line {number}: no memory is left"),
-        };
-        match text {
-            Ok(text) => text.into(),
-            Err(_) => "no memory is left".into(),
+    pub(crate) fn at(self, number: u64) -> anyhow::Error {
+        match self {
+            Fault::Expected(expected) => anyhow!("line {number}: expected {expected}"),
+            Fault::NotYet => anyhow!("line {number}: this call is not there yet"),
+            Fault::Memory => anyhow!("line {number}: no memory is left"),
         }
     }
 }

@@ -75,7 +75,7 @@ fn rehearse(rt: &HostRuntime, text: &str, answers: bool) -> anyhow::Result<()> {
         let mut out = String::new(heap);
         match session.line(heap, &mut watch, line, &mut out) {
             Ok(()) => rt.print(out.as_str())?,
-            Err(fault) => return Err(fault.at(heap, number)),
+            Err(fault) => return Err(fault.at(number)),
         }
     }
     Ok(())
