@@ -5,7 +5,7 @@ use crate::make::{Level, Make, Rate};
 use crate::rated::Rated;
 use crate::script::{known, obey, show_words, words_of};
 use crate::source::Source;
-use crate::term::{Term, show_number};
+use crate::term::show_number;
 use crate::watch::Watch;
 use crate::wired::Wired;
 use kinds::{PublicKey, Station};

@@ -3,7 +3,7 @@ use crate::fault::Fault;
 use crate::make::Wire;
 use crate::term::{Term, show_number};
 use kinds::{Digest, Ordered, PublicKey, Seat, Station};
-use link::{Lane, Lanes, Link, Link as _, Message, Outbox, Pass};
+use link::{Lane, Lanes, Link, Message, Outbox, Pass};
 use std::alloc::{AllocError, Global};
 
 // What a link says to a message by hand.
