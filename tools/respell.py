@@ -83,6 +83,9 @@ def turned(line, names):
 def main():
     found = own_names()
     names = {name: spelled(name) for name in found}
+    if set(names) <= set(SPECIAL):
+        print("respell: the names are in snake case already: nothing to do")
+        return 0
     if "--list" in sys.argv:
         for name in sorted(names):
             print(name, names[name], *sorted(found[name]))
