@@ -14,7 +14,7 @@ mod orders;
 #[cfg(test)]
 mod ratings;
 #[cfg(test)]
-mod tables;
+mod table_calls;
 
 // The worked cases of the rules hold of the definitions.
 pub fn cases_stand() -> u8
