@@ -7,7 +7,6 @@ use live::{LiveKeys, Stage};
 use roster::Participants;
 use score::{Rating, Score};
 use std::alloc::Global;
-use std::process::Abort;
 use std::test::Fail;
 use tables::{Only, Table};
 use trackers::Targets;
@@ -22,7 +21,7 @@ fn seat(n: u16) -> Seat {
 }
 
 // A fetcher of station 1 with a timeout of two seconds and a delay of one, over a roster of three stations.
-fn fetcher(rt: &impl Abort, heap: Global) -> Result<Fetcher<Station, Score, Seat>, Fail> {
+fn fetcher(heap: Global) -> Result<Fetcher<Station, Score, Seat>, Fail> {
     let Ok(roster) = Participants::new(heap, 7, 4) else {
         return Err(Fail::new("no roster"));
     };
@@ -45,7 +44,9 @@ fn fetcher(rt: &impl Abort, heap: Global) -> Result<Fetcher<Station, Score, Seat
         keys,
         targets,
     );
-    assert!(rt; all.reconcile(&[Station(1), Station(2), Station(3)]));
+    if !all.reconcile(&[Station(1), Station(2), Station(3)]) {
+        return Err(Fail::new("the roster is not taken over"));
+    }
     Ok(all)
 }
 
@@ -73,7 +74,7 @@ fn id_of(sent: Option<Message<Station, Seat>>) -> Result<u64, Fail> {
 // The first key's only target is closed: the second key goes, to the first weight's peer.
 #[test]
 fn next_key_goes(rt: HostRuntime) -> Result<(), Fail> {
-    let mut all = fetcher(&rt, rt.alloc())?;
+    let mut all = fetcher(rt.alloc())?;
     let mut link = lanes()?;
     let mut words = source(rt.alloc(), 0)?;
     assert!(rt; link.close(Station(3)));
@@ -95,7 +96,7 @@ fn next_key_goes(rt: HostRuntime) -> Result<(), Fail> {
 // A key that is aimed at nobody is not sent, and nothing wakes the queue.
 #[test]
 fn aimed_at_nobody(rt: HostRuntime) -> Result<(), Fail> {
-    let mut all = fetcher(&rt, rt.alloc())?;
+    let mut all = fetcher(rt.alloc())?;
     let mut link = lanes()?;
     let mut words = source(rt.alloc(), 0)?;
     assert!(rt; all.add_ready(seat(1), 5));
@@ -109,7 +110,7 @@ fn aimed_at_nobody(rt: HostRuntime) -> Result<(), Fail> {
 // The last id is followed by 0, and a wait is heard.
 #[test]
 fn ids_wrap(rt: HostRuntime) -> Result<(), Fail> {
-    let mut all = fetcher(&rt, rt.alloc())?;
+    let mut all = fetcher(rt.alloc())?;
     let mut link = lanes()?;
     let mut words = source(rt.alloc(), 0)?;
     all.next = Some(0xffff_ffff_ffff_ffff);
@@ -129,7 +130,7 @@ fn ids_wrap(rt: HostRuntime) -> Result<(), Fail> {
 // A missing answer is charged, and its key is queued again after the delay.
 #[test]
 fn missing_again(rt: HostRuntime) -> Result<(), Fail> {
-    let mut all = fetcher(&rt, rt.alloc())?;
+    let mut all = fetcher(rt.alloc())?;
     let mut link = lanes()?;
     let mut words = source(rt.alloc(), 0)?;
     assert!(rt; all.add_ready(seat(1), 0));
