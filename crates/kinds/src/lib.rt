@@ -2,19 +2,17 @@
 #![tactic(auto)]
 
 mod bytes32;
-mod digest;
-mod forms;
-mod numbers;
+mod named;
 mod ordered;
 mod pair;
-mod public_key;
+mod seat;
+mod station;
 mod storable;
 
 pub use bytes32::Bytes32;
-pub use digest::Digest;
-pub use forms::{u16_bytes, u32_bytes, u64_bytes};
-pub use numbers::{Seat, Station};
+pub use named::{Digest, Named, Peer, PublicKey, Record};
 pub use ordered::Ordered;
 pub use pair::Pair;
-pub use public_key::PublicKey;
+pub use seat::Seat;
+pub use station::Station;
 pub use storable::Storable;

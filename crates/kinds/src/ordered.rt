@@ -1,24 +1,17 @@
 // Kinds that have a total order.
 ghost use Rattle.std.specs.Prelude.{◌≡◌};
-ghost use Rattle.std.specs.declared.cmp.Ordering.TheVariants.{Less, Equal};
+ghost use Rattle.std.specs.declared.cmp.Ordering.TheVariants.{Equal};
 ghost use Rattle.std.specs.declared.cmp.Ordering.{Ordering};
-ghost use Rattle.std.specs.Ordering.{ordering_reverse};
+ghost use Rattle.std.specs.Ordering.{is_eq};
 
-use std::cmp::Ordering;
-
-// A kind with a total order: equal only at the same value, every value equals itself, turning the comparison round
-// reverses it, and less carries over from two steps to one.
-pub trait Ordered: Copy {
+// A kind whose comparisons follow an order. It is total, as every `Ord` is: a value equals itself, turning the
+// comparison round reverses it, and less carries over from two steps to one. Equal are only the same values.
+pub trait Ordered: Copy + Ord {
     ghost order: { Self → Self → Ordering };
 
-    fn compare(&self, other: &Self) -> Ordering
-        ensures { result ≡ order self.now other.now };
+    ghost compares: { (x y : Self) → Self.cmp x y ≡ order x y };
 
-    ghost same: { (x y : Self) → order x y ≡ Equal → x ≡ y };
+    ghost equals: { (x y : Self) → Self.eq x y ≡ is_eq (order x y) };
 
-    ghost reflexive: { (x : Self) → order x x ≡ Equal };
-
-    ghost turned: { (x y : Self) → order y x ≡ ordering_reverse (order x y) };
-
-    ghost joined: { (x y z : Self) → order x y ≡ Less → order y z ≡ Less → order x z ≡ Less };
+    ghost same: { (x y : Self) → Self.cmp x y ≡ Equal → x ≡ y };
 }

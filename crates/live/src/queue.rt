@@ -85,9 +85,9 @@ pub struct QueueFrom<K> {
 }
 
 impl<K: Ordered, P: Copy> Ranking<KeyRow<K, P>, QueueRow<K>> for QueueFrom<K> {
-    ghost offers = { λ s r. past K.Ordered s.last (queue_row r) };
+    ghost offers = { λ s r. past K.Ordered.own s.last (queue_row r) };
 
-    ghost ahead = { λ a b. earlier K.Ordered a b };
+    ghost ahead = { λ a b. earlier K.Ordered.own a b };
 
     fn offer(&self, row: &KeyRow<K, P>) -> Option<QueueRow<K>> {
         match (self.last, queue_row(row)) {
@@ -107,14 +107,14 @@ impl<K: Ordered, P: Copy> Ranking<KeyRow<K, P>, QueueRow<K>> for QueueFrom<K> {
 
 // Whether a row of the queue comes before another.
 fn comes_before<K: Ordered>(a: &QueueRow<K>, b: &QueueRow<K>) -> bool
-    ensures { result ≡ earlier K.Ordered a.now b.now }
+    ensures { result ≡ earlier K.Ordered.own a.now b.now }
 {
     matches!(a.key().compare(&b.key()), Ordering::Less)
 }
 
 // Puts a key into its place, if it is queued.
 fn enqueue<K: Ordered, P: Copy>(queue: &mut Table<QueueRow<K>>, row: &KeyRow<K, P>)
-    ensures { tab_of queue.new ≡ enqueued K.Ordered (queue_row row.now) (tab_of queue.old) }
+    ensures { tab_of queue.new ≡ enqueued K.Ordered.own (queue_row row.now) (tab_of queue.old) }
 {
     match queue_row(row) {
         Some(next) => {
@@ -126,7 +126,7 @@ fn enqueue<K: Ordered, P: Copy>(queue: &mut Table<QueueRow<K>>, row: &KeyRow<K, 
 
 // Lists the queued keys of the rows in queue order.
 pub fn list_queue<K: Ordered, P: Copy>(queue: &mut Table<QueueRow<K>>, rows: &[KeyRow<K, P>])
-    ensures { tab_of queue.new ≡ queue_on K.Ordered (emptied (tab_of queue.old)) rows.now }
+    ensures { tab_of queue.new ≡ queue_on K.Ordered.own (emptied (tab_of queue.old)) rows.now }
 {
     queue.clear();
     for row in rows {

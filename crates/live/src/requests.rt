@@ -55,7 +55,7 @@ pub struct Asked<P> {
 }
 
 impl<K: Ordered, P: Ordered> Probe<KeyRow<K, P>, (K, u64)> for Asked<P> {
-    ghost finds = { λ s r. asked_in P.Ordered s.id s.peer r };
+    ghost finds = { λ s r. asked_in P.Ordered.own s.id s.peer r };
 
     fn probe(&self, row: &KeyRow<K, P>) -> Option<(K, u64)> {
         match row.stage {
@@ -70,7 +70,7 @@ impl<K: Ordered, P: Ordered> Probe<KeyRow<K, P>, (K, u64)> for Asked<P> {
 
 // The key that is out under an id at a peer, with its start.
 pub fn asked_in<K: Ordered, P: Ordered>(rows: &[KeyRow<K, P>], id: u64, peer: P) -> Option<(K, u64)>
-    ensures { result ≡ asked P.Ordered id peer rows.now }
+    ensures { result ≡ asked P.Ordered.own id peer rows.now }
 {
     first(rows, &Asked { id, peer })
 }

@@ -22,7 +22,7 @@ fn newcomer_row<P: Ordered, V: Rating>(peer: P) -> PeerRow<P, V>
 pub fn join<P: Ordered, V: Rating>(old: &[PeerRow<P, V>], list: &[P], out: &mut Vec<PeerRow<P, V>>)
     requires empty { vec_len out.old ≡ 0 }
     requires room { length list.now ≤ vec_capacity out.old }
-    ensures items { out.new.items ≡ joined P.Ordered V.Rating list.now old.now }
+    ensures items { out.new.items ≡ joined P.Ordered.own V.Rating list.now old.now }
     ensures len { vec_len out.new ≡ length list.now }
     ensures capacity { vec_capacity out.new ≡ vec_capacity out.old }
 {

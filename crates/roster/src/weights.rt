@@ -15,7 +15,7 @@ use std::cmp::Ordering;
 use tables::{Only, Table};
 
 fn is_own<P: Ordered>(own: Option<P>, peer: P) -> bool
-    ensures { result ≡ is_own P.Ordered own peer }
+    ensures { result ≡ is_own P.Ordered.own own peer }
 {
     match own {
         None => false,
@@ -25,7 +25,7 @@ fn is_own<P: Ordered>(own: Option<P>, peer: P) -> bool
 
 // Whether a peer is never asked: the engine's own, or blocked.
 fn is_out<P: Ordered>(own: Option<P>, blocked: &Table<Only<P>>, peer: P) -> bool
-    ensures { result ≡ is_out P.Ordered own (tab_of blocked.now).rows peer }
+    ensures { result ≡ is_out P.Ordered.own own (tab_of blocked.now).rows peer }
 {
     is_own(own, peer) || blocked.get(peer).is_some()
 }
@@ -36,7 +36,7 @@ fn share_of<P: Ordered, V: Rating>(
     own: Option<P>,
     blocked: &Table<Only<P>>,
 ) -> Share
-    ensures { result ≡ share_for P.Ordered V.Rating own (tab_of blocked.now).rows row.now }
+    ensures { result ≡ share_for P.Ordered.own V.Rating own (tab_of blocked.now).rows row.now }
 {
     let weight = if is_out(own, blocked, row.peer) {
         0
@@ -58,7 +58,7 @@ pub fn weigh_all<P: Ordered, V: Rating>(
 )
     requires room { length rows.now ≤ vec_capacity shares.old }
     requires few { length rows.now ≤ most_peers }
-    ensures items { shares.new.items ≡ shares_for P.Ordered V.Rating own (tab_of blocked.now).rows rows.now }
+    ensures items { shares.new.items ≡ shares_for P.Ordered.own V.Rating own (tab_of blocked.now).rows rows.now }
     ensures len { vec_len shares.new ≡ length rows.now }
     ensures capacity { vec_capacity shares.new ≡ vec_capacity shares.old }
     ensures light { heaviest shares.new.items ≤ most_weight }

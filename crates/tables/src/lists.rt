@@ -3,7 +3,6 @@ ghost use Rattle.std.specs.Prelude.{◌≡◌, ◌&&◌, length};
 ghost use Rattle.tables.specs.Lists.{after, ordered_from, ordered, fits_list};
 
 use kinds::Ordered;
-use std::cmp::Ordering;
 
 // Whether a value may follow the last one, if there is one.
 fn comes_after<T: Ordered>(last: Option<T>, x: &T) -> bool
@@ -11,7 +10,7 @@ fn comes_after<T: Ordered>(last: Option<T>, x: &T) -> bool
 {
     match last {
         None => true,
-        Some(y) => matches!(y.compare(x), Ordering::Less),
+        Some(y) => y < *x,
     }
 }
 

@@ -15,7 +15,7 @@ fn halve<R: Row>(rows: &[R], key: R::Key) -> Result<usize, usize>
     let mut high = rows.len();
     while low < high {
         let mid = low + (high - low) / 2;
-        match rows[mid].key().compare(&key) {
+        match rows[mid].key().cmp(&key) {
             Ordering::Less => low = mid + 1,
             Ordering::Equal => return Ok(mid),
             Ordering::Greater => high = mid,

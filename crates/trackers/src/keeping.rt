@@ -16,7 +16,7 @@ pub struct Waited<'a, K: Ordered, S: Ordered> {
 }
 
 impl<'a, K: Ordered, S: Ordered, P: Ordered> RowRule<KeyRow<K, P>> for Waited<'a, K, S> {
-    ghost ruled = { λ s r. live_key K.Ordered (tab_of s.waiting.now.table).rows r };
+    ghost ruled = { λ s r. live_key K.Ordered.own (tab_of s.waiting.now.table).rows r };
 
     fn apply(&self, row: &KeyRow<K, P>) -> Option<KeyRow<K, P>> {
         if self.waiting.contains(row.key) {
@@ -34,7 +34,7 @@ pub struct OfLive<'a, K: Ordered, P: Ordered> {
 }
 
 impl<'a, K: Ordered, P: Ordered, S: Ordered> RowRule<WaitRow<K, S>> for OfLive<'a, K, P> {
-    ghost ruled = { λ s r. live_wait K.Ordered (tab_of s.keys.now.table).rows r };
+    ghost ruled = { λ s r. live_wait K.Ordered.own (tab_of s.keys.now.table).rows r };
 
     fn apply(&self, row: &WaitRow<K, S>) -> Option<WaitRow<K, S>> {
         if self.keys.get(row.pair.first).is_some() {
@@ -46,7 +46,7 @@ impl<'a, K: Ordered, P: Ordered, S: Ordered> RowRule<WaitRow<K, S>> for OfLive<'
 }
 
 impl<'a, K: Ordered, P: Ordered> RowRule<Only<Pair<K, P>>> for OfLive<'a, K, P> {
-    ghost ruled = { λ s r. live_target K.Ordered (tab_of s.keys.now.table).rows r };
+    ghost ruled = { λ s r. live_target K.Ordered.own (tab_of s.keys.now.table).rows r };
 
     fn apply(&self, row: &Only<Pair<K, P>>) -> Option<Only<Pair<K, P>>> {
         if self.keys.get(row.key.first).is_some() {
@@ -62,7 +62,7 @@ pub fn retain_waited<K: Ordered, S: Ordered, P: Ordered>(
     keys: &mut LiveKeys<K, P>,
     waiting: &Subscribers<K, S>,
 )
-    ensures table { tab_of keys.new.table ≡ sweep_by (live_key K.Ordered (tab_of waiting.now.table).rows) (tab_of keys.old.table) }
+    ensures table { tab_of keys.new.table ≡ sweep_by (live_key K.Ordered.own (tab_of waiting.now.table).rows) (tab_of keys.old.table) }
     ensures queue { tab_of keys.new.queue ≡ tab_of keys.old.queue }
 {
     keys.table.sweep(&Waited { waiting });
@@ -73,7 +73,7 @@ pub fn retain_live<K: Ordered, S: Ordered, P: Ordered>(
     waiting: &mut Subscribers<K, S>,
     keys: &LiveKeys<K, P>,
 )
-    ensures { tab_of waiting.new.table ≡ sweep_by (live_wait K.Ordered (tab_of keys.now.table).rows) (tab_of waiting.old.table) }
+    ensures { tab_of waiting.new.table ≡ sweep_by (live_wait K.Ordered.own (tab_of keys.now.table).rows) (tab_of waiting.old.table) }
 {
     waiting.table.sweep(&OfLive { keys });
 }
@@ -81,7 +81,7 @@ pub fn retain_live<K: Ordered, S: Ordered, P: Ordered>(
 impl<K: Ordered, P: Ordered> Targets<K, P> {
     // Keeps the pairs of live keys.
     pub fn retain_live(&mut self, keys: &LiveKeys<K, P>)
-        ensures { tab_of self.new.table ≡ sweep_by (live_target K.Ordered (tab_of keys.now.table).rows) (tab_of self.old.table) }
+        ensures { tab_of self.new.table ≡ sweep_by (live_target K.Ordered.own (tab_of keys.now.table).rows) (tab_of self.old.table) }
     {
         self.table.sweep(&OfLive { keys });
     }

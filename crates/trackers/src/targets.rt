@@ -23,7 +23,7 @@ pub struct OffKey<K> {
 }
 
 impl<K: Ordered, P: Ordered> RowRule<Only<Pair<K, P>>> for OffKey<K> {
-    ghost ruled = { λ s r. off_key K.Ordered s.key r };
+    ghost ruled = { λ s r. off_key K.Ordered.own s.key r };
 
     fn apply(&self, row: &Only<Pair<K, P>>) -> Option<Only<Pair<K, P>>> {
         if matches!(row.key.first.compare(&self.key), Ordering::Equal) {
@@ -36,7 +36,7 @@ impl<K: Ordered, P: Ordered> RowRule<Only<Pair<K, P>>> for OffKey<K> {
 
 // Adds all of a list to the targets of a key.
 fn aim_at_all<K: Ordered, P: Ordered>(targets: &mut Table<Only<Pair<K, P>>>, key: K, peers: &[P])
-    ensures { tab_of targets.new ≡ add_all K.Ordered P.Ordered key (tab_of targets.old) peers.now }
+    ensures { tab_of targets.new ≡ add_all K.Ordered.own P.Ordered.own key (tab_of targets.old) peers.now }
 {
     for peer in peers {
         let _ = targets.put(Only {
@@ -49,7 +49,7 @@ fn aim_at_all<K: Ordered, P: Ordered>(targets: &mut Table<Only<Pair<K, P>>>, key
 }
 
 impl<K: Ordered, P: Ordered> Paired<K, P> for Targets<K, P> {
-    ghost has = { λ t key x. is_some (target_row K.Ordered P.Ordered key x (tab_of t.table).rows) };
+    ghost has = { λ t key x. is_some (target_row K.Ordered.own P.Ordered.own key x (tab_of t.table).rows) };
 
     fn has_pair(&self, key: K, x: P) -> bool {
         self.table
@@ -72,28 +72,28 @@ impl<K: Ordered, P: Ordered> Targets<K, P> {
 
     // How many new pairs an addition needs.
     pub fn count_new(&self, key: K, peers: &[P]) -> usize
-        ensures { result ≡ new_of P.Ordered.order (λ x. is_some (target_row K.Ordered P.Ordered key x (tab_of self.now.table).rows)) peers.now }
+        ensures { result ≡ new_of P.Ordered.order (λ x. is_some (target_row K.Ordered.own P.Ordered.own key x (tab_of self.now.table).rows)) peers.now }
     {
         count_new(self, key, peers)
     }
 
     // Adds peers to the targets of a key, repeats once.
     pub fn add(&mut self, key: K, peers: &[P])
-        ensures { tab_of self.new.table ≡ add_all K.Ordered P.Ordered key (tab_of self.old.table) peers.now }
+        ensures { tab_of self.new.table ≡ add_all K.Ordered.own P.Ordered.own key (tab_of self.old.table) peers.now }
     {
         aim_at_all(&mut self.table, key, peers);
     }
 
     // Takes all targets of a key off.
     pub fn clear(&mut self, key: K)
-        ensures { tab_of self.new.table ≡ sweep_by (off_key K.Ordered key) (tab_of self.old.table) }
+        ensures { tab_of self.new.table ≡ sweep_by (off_key K.Ordered.own key) (tab_of self.old.table) }
     {
         self.table.sweep(&OffKey { key });
     }
 
     // Whether a peer is a target of a key.
     pub fn contains(&self, key: K, peer: P) -> bool
-        ensures { result ≡ is_some (target_row K.Ordered P.Ordered key peer (tab_of self.now.table).rows) }
+        ensures { result ≡ is_some (target_row K.Ordered.own P.Ordered.own key peer (tab_of self.now.table).rows) }
     {
         self.has_pair(key, peer)
     }

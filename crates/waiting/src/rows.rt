@@ -67,7 +67,7 @@ pub struct OfKey<K> {
 }
 
 impl<K: Ordered, S: Ordered> RowRule<WaitRow<K, S>> for OfKey<K> {
-    ghost ruled = { λ s r. only K.Ordered s.key (changed s.change) r };
+    ghost ruled = { λ s r. only K.Ordered.own s.key (changed s.change) r };
 
     fn apply(&self, row: &WaitRow<K, S>) -> Option<WaitRow<K, S>> {
         if matches!(row.pair.first.compare(&self.key), Ordering::Equal) {
@@ -104,7 +104,7 @@ impl<'a, K: Ordered, S: Ordered, W: Rule<K, S>> RowRule<WaitRow<K, S>> for Retai
 
 // The first place past the rows of smaller keys, and with `past` also past those of the key.
 fn bound<K: Ordered, S: Ordered>(rows: &[WaitRow<K, S>], key: K, past: bool) -> usize
-    ensures value { result ≡ bound_of K.Ordered key past rows.now }
+    ensures value { result ≡ bound_of K.Ordered.own key past rows.now }
     ensures within { result ≤ length rows.now }
 {
     let mut low = 0;
@@ -133,7 +133,7 @@ fn comes_before<K: Ordered, S: Ordered>(row: &WaitRow<K, S>, key: K, past: bool)
 
 // The rows of a key.
 pub fn rows_of<'a, K: Ordered, S: Ordered>(rows: &'a [WaitRow<K, S>], key: K) -> &'a [WaitRow<K, S>]
-    ensures { result.now ≡ rows_of K.Ordered key rows.now }
+    ensures { result.now ≡ rows_of K.Ordered.own key rows.now }
 {
     let start = bound(rows, key, false);
     let end = bound(rows, key, true);

@@ -24,7 +24,7 @@ pub struct Subscribers<K: Ordered, S: Ordered> {
 
 // A subscriber waits for a key; a delivered mark that its pair has stays.
 fn wait_for<K: Ordered, S: Ordered>(waiting: &mut Table<WaitRow<K, S>>, key: K, subscriber: S)
-    ensures { tab_of waiting.new ≡ wait_one K.Ordered S.Ordered key subscriber (tab_of waiting.old) }
+    ensures { tab_of waiting.new ≡ wait_one K.Ordered.own S.Ordered.own key subscriber (tab_of waiting.old) }
 {
     let pair = Pair {
         first: key,
@@ -47,7 +47,7 @@ fn wait_for_all<K: Ordered, S: Ordered>(
     key: K,
     subscribers: &[S],
 )
-    ensures { tab_of waiting.new ≡ wait_all K.Ordered S.Ordered key (tab_of waiting.old) subscribers.now }
+    ensures { tab_of waiting.new ≡ wait_all K.Ordered.own S.Ordered.own key (tab_of waiting.old) subscribers.now }
 {
     for subscriber in subscribers {
         wait_for(waiting, key, *subscriber);
@@ -55,7 +55,7 @@ fn wait_for_all<K: Ordered, S: Ordered>(
 }
 
 impl<K: Ordered, S: Ordered> Paired<K, S> for Subscribers<K, S> {
-    ghost has = { λ t key x. is_some (wait_row K.Ordered S.Ordered key x (tab_of t.table).rows) };
+    ghost has = { λ t key x. is_some (wait_row K.Ordered.own S.Ordered.own key x (tab_of t.table).rows) };
 
     fn has_pair(&self, key: K, x: S) -> bool {
         self.table
@@ -78,21 +78,21 @@ impl<K: Ordered, S: Ordered> Subscribers<K, S> {
 
     // How many new pairs an insert needs.
     pub fn count_new(&self, key: K, subscribers: &[S]) -> usize
-        ensures { result ≡ new_of S.Ordered.order (λ x. is_some (wait_row K.Ordered S.Ordered key x (tab_of self.now.table).rows)) subscribers.now }
+        ensures { result ≡ new_of S.Ordered.order (λ x. is_some (wait_row K.Ordered.own S.Ordered.own key x (tab_of self.now.table).rows)) subscribers.now }
     {
         count_new(self, key, subscribers)
     }
 
     // All of a list wait for a key, repeats once.
     pub fn insert(&mut self, key: K, subscribers: &[S])
-        ensures { tab_of self.new.table ≡ wait_all K.Ordered S.Ordered key (tab_of self.old.table) subscribers.now }
+        ensures { tab_of self.new.table ≡ wait_all K.Ordered.own S.Ordered.own key (tab_of self.old.table) subscribers.now }
     {
         wait_for_all(&mut self.table, key, subscribers);
     }
 
     // Whether a subscriber waits for a key.
     pub fn waits(&self, key: K, subscriber: S) -> bool
-        ensures { result ≡ waits_of (wait_row K.Ordered S.Ordered key subscriber (tab_of self.now.table).rows) }
+        ensures { result ≡ waits_of (wait_row K.Ordered.own S.Ordered.own key subscriber (tab_of self.now.table).rows) }
     {
         match self.table.get(Pair {
             first: key,
@@ -105,21 +105,21 @@ impl<K: Ordered, S: Ordered> Subscribers<K, S> {
 
     // Whether anyone waits for a key.
     pub fn contains(&self, key: K) -> bool
-        ensures { result ≡ waited K.Ordered key (tab_of self.now.table).rows }
+        ensures { result ≡ waited K.Ordered.own key (tab_of self.now.table).rows }
     {
         any_waits(rows_of(self.table.rows(), key))
     }
 
     // The n-th subscriber of a key's running delivery in their order, from 0.
     pub fn delivered(&self, key: K, n: usize) -> Option<S>
-        ensures { result ≡ nth_delivered (rows_of K.Ordered key (tab_of self.now.table).rows) n }
+        ensures { result ≡ nth_delivered (rows_of K.Ordered.own key (tab_of self.now.table).rows) n }
     {
         nth_delivered(rows_of(self.table.rows(), key), n)
     }
 
     // Begins a delivery to all that wait for a key.
     pub fn deliver(&mut self, key: K)
-        ensures { tab_of self.new.table ≡ sweep_by (only K.Ordered key (changed Begins)) (tab_of self.old.table) }
+        ensures { tab_of self.new.table ≡ sweep_by (only K.Ordered.own key (changed Begins)) (tab_of self.old.table) }
     {
         self.table.sweep(&OfKey {
             key,
@@ -129,7 +129,7 @@ impl<K: Ordered, S: Ordered> Subscribers<K, S> {
 
     // Ends a delivery: the delivered ones go, also one that left and came back.
     pub fn remove_delivered(&mut self, key: K)
-        ensures { tab_of self.new.table ≡ sweep_by (only K.Ordered key (changed Ends)) (tab_of self.old.table) }
+        ensures { tab_of self.new.table ≡ sweep_by (only K.Ordered.own key (changed Ends)) (tab_of self.old.table) }
     {
         self.table.sweep(&OfKey {
             key,
@@ -139,7 +139,7 @@ impl<K: Ordered, S: Ordered> Subscribers<K, S> {
 
     // Undoes a delivery: the delivered marks go, and with them those that left.
     pub fn undo_delivery(&mut self, key: K)
-        ensures { tab_of self.new.table ≡ sweep_by (only K.Ordered key (changed Undoes)) (tab_of self.old.table) }
+        ensures { tab_of self.new.table ≡ sweep_by (only K.Ordered.own key (changed Undoes)) (tab_of self.old.table) }
     {
         self.table.sweep(&OfKey {
             key,
@@ -149,7 +149,7 @@ impl<K: Ordered, S: Ordered> Subscribers<K, S> {
 
     // Retires a key: all its pairs go.
     pub fn remove(&mut self, key: K)
-        ensures { tab_of self.new.table ≡ sweep_by (only K.Ordered key (changed Retires)) (tab_of self.old.table) }
+        ensures { tab_of self.new.table ≡ sweep_by (only K.Ordered.own key (changed Retires)) (tab_of self.old.table) }
     {
         self.table.sweep(&OfKey {
             key,

@@ -18,7 +18,7 @@ fn is_kept<P: Ordered, V: Rating, K: Ordered>(
     targets: &Targets<K, P>,
     key: K,
 ) -> bool
-    ensures { result ≡ stays (aims P.Ordered K.Ordered (tab_of targets.now.table).rows key) row.now share }
+    ensures { result ≡ stays (aims P.Ordered.own K.Ordered.own (tab_of targets.now.table).rows key) row.now share }
 {
     share.weight == 0 || targets.contains(key, row.peer)
 }
@@ -31,7 +31,7 @@ fn leave_out<P: Ordered, V: Rating, K: Ordered>(
     key: K,
 )
     requires { length peers.now ≡ length shares.old }
-    ensures { shares.new ≡ left_out (aims P.Ordered K.Ordered (tab_of targets.now.table).rows key) peers.now 0 shares.old }
+    ensures { shares.new ≡ left_out (aims P.Ordered.own K.Ordered.own (tab_of targets.now.table).rows key) peers.now 0 shares.old }
 {
     for (i, row) in peers.iter().enumerate() {
         if !is_kept(shares[i], row, targets, key) {
@@ -48,7 +48,7 @@ pub fn allow<P: Ordered, V: Rating, K: Ordered>(
     row: &QueueRow<K>,
 )
     requires { length peers.now ≡ length shares.old }
-    ensures { shares.new ≡ rows_for row.now.aimed (aims P.Ordered K.Ordered (tab_of targets.now.table).rows row.now.key) peers.now shares.old }
+    ensures { shares.new ≡ rows_for row.now.aimed (aims P.Ordered.own K.Ordered.own (tab_of targets.now.table).rows row.now.key) peers.now shares.old }
 {
     if row.aimed {
         leave_out(shares, peers, targets, row.key);

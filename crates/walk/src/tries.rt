@@ -47,7 +47,7 @@ fn walk<P: Ordered, V: Rating, K: Ordered, L: Link<P, K>, D: DrawSource>(
     requires whole { all_back shares.old ≡ shares.old }
     requires same { length peers.now ≡ length shares.old }
     ensures shares { shares.new ≡ shares.old }
-    ensures told { told result (D.DrawSource.ahead source.new) next.new ≡ try_keys (L.Link.word link.old) time peers.now (tab_of out.now.table).rows (aims P.Ordered K.Ordered (tab_of targets.now.table).rows) shares.old queue.now (D.DrawSource.ahead source.old) next.old limit Nothing no }
+    ensures told { told result (D.DrawSource.ahead source.new) next.new ≡ try_keys (L.Link.word link.old) time peers.now (tab_of out.now.table).rows (aims P.Ordered.own K.Ordered.own (tab_of targets.now.table).rows) shares.old queue.now (D.DrawSource.ahead source.old) next.old limit Nothing no }
     ensures unused { Unused (tab_of out.now.table).rows result.sent }
     ensures link { Carried L.Link.count L.Link.latest link.old result.sent link.new }
 {
@@ -100,11 +100,11 @@ pub fn send_first<P: Ordered, V: Rating, K: Ordered, L: Link<P, K>, D: DrawSourc
     time: u64,
 ) -> Walked<P, K>
     ensures roster { roster_of roster.new ≡ roster_of roster.old }
-    ensures told { told result (D.DrawSource.ahead source.new) next.new ≡ try_keys (L.Link.word link.old) time (roster_of roster.old).peers.rows (tab_of keys.now.table).rows (aims P.Ordered K.Ordered (tab_of targets.now.table).rows) (roster_of roster.old).shares (tab_of keys.now.queue).rows (D.DrawSource.ahead source.old) next.old limit Nothing no }
+    ensures told { told result (D.DrawSource.ahead source.new) next.new ≡ try_keys (L.Link.word link.old) time (roster_of roster.old).peers.rows (tab_of keys.now.table).rows (aims P.Ordered.own K.Ordered.own (tab_of targets.now.table).rows) (roster_of roster.old).shares (tab_of keys.now.queue).rows (D.DrawSource.ahead source.old) next.old limit Nothing no }
     ensures unused { Unused (tab_of keys.now.table).rows result.sent }
     ensures link { Carried L.Link.count L.Link.latest link.old result.sent link.new }
-    ensures first { First (L.Link.word link.old) time (roster_of roster.old).peers.rows (aims P.Ordered K.Ordered (tab_of targets.now.table).rows) (roster_of roster.old).shares (tab_of keys.now.queue).rows result.sent }
-    ensures quiet { Quiet (L.Link.word link.old) time (roster_of roster.old).peers.rows (aims P.Ordered K.Ordered (tab_of targets.now.table).rows) (roster_of roster.old).shares (tab_of keys.now.queue).rows result.sent result.wait }
+    ensures first { First (L.Link.word link.old) time (roster_of roster.old).peers.rows (aims P.Ordered.own K.Ordered.own (tab_of targets.now.table).rows) (roster_of roster.old).shares (tab_of keys.now.queue).rows result.sent }
+    ensures quiet { Quiet (L.Link.word link.old) time (roster_of roster.old).peers.rows (aims P.Ordered.own K.Ordered.own (tab_of targets.now.table).rows) (roster_of roster.old).shares (tab_of keys.now.queue).rows result.sent result.wait }
 {
     walk(
         keys.queue.rows(),

@@ -46,7 +46,7 @@ fn count_in<K: Ordered, P: Ordered>(rows: &[KeyRow<K, P>], queued: bool) -> usiz
 impl<P: Ordered, V: Rating, K: Ordered> Fetcher<P, V, K> {
     // When the queue is to be looked at: the later of the first key's deadline and the waiter.
     pub fn get_pending_deadline(&self) -> Option<u64>
-        ensures { result ≡ pending_answer K.Ordered (fet_of self.now) }
+        ensures { result ≡ pending_answer K.Ordered.own (fet_of self.now) }
     {
         let first = self.keys.first_queued()?;
         Some(later(first.turn.deadline, self.waiter))
@@ -62,14 +62,14 @@ impl<P: Ordered, V: Rating, K: Ordered> Fetcher<P, V, K> {
 
     // The weight of a peer of the roster.
     pub fn weight(&self, peer: P) -> Option<u64>
-        ensures { result ≡ weight_of P.Ordered peer (fet_of self.now).roster }
+        ensures { result ≡ weight_of P.Ordered.own peer (fet_of self.now).roster }
     {
         self.roster.weight(peer)
     }
 
     // Where a live key is.
     pub fn place(&self, key: K) -> Option<Stage<P>>
-        ensures { result ≡ stage_of (row_of K.Ordered key (fet_of self.now)) }
+        ensures { result ≡ stage_of (row_of K.Ordered.own key (fet_of self.now)) }
     {
         let row = self.keys.get(key)?;
         Some(row.stage)

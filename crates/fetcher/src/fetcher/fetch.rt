@@ -38,7 +38,7 @@ fn set_out<K: Ordered, P: Ordered>(
     sent: Option<Message<P, K>>,
     time: u64,
 )
-    ensures table { tab_of keys.new.table ≡ sent_in K.Ordered sent time (tab_of keys.old.table) }
+    ensures table { tab_of keys.new.table ≡ sent_in K.Ordered.own sent time (tab_of keys.old.table) }
     ensures queue { tab_of keys.new.queue ≡ tab_of keys.old.queue }
 {
     match sent {
@@ -64,16 +64,16 @@ impl<P: Ordered, V: Rating, K: Ordered> Fetcher<P, V, K> {
         source: &mut D,
         time: u64,
     ) -> Walked<P, K>
-        ensures sent { result.sent ≡ (fetched P.Ordered K.Ordered (L.Link.word link.old) time (D.DrawSource.ahead source.old) (fet_of self.old)).sent }
-        ensures late { result.late ≡ (fetched P.Ordered K.Ordered (L.Link.word link.old) time (D.DrawSource.ahead source.old) (fet_of self.old)).late }
-        ensures wait { result.wait ≡ (fetched P.Ordered K.Ordered (L.Link.word link.old) time (D.DrawSource.ahead source.old) (fet_of self.old)).wait }
-        ensures allowed { result.allowed ≡ (fetched P.Ordered K.Ordered (L.Link.word link.old) time (D.DrawSource.ahead source.old) (fet_of self.old)).allowed }
-        ensures words { D.DrawSource.ahead source.new ≡ (fetched P.Ordered K.Ordered (L.Link.word link.old) time (D.DrawSource.ahead source.old) (fet_of self.old)).words }
-        ensures state { fet_of self.new ≡ with_next (fetched P.Ordered K.Ordered (L.Link.word link.old) time (D.DrawSource.ahead source.old) (fet_of self.old)).next (fet_of self.old) }
+        ensures sent { result.sent ≡ (fetched P.Ordered.own K.Ordered.own (L.Link.word link.old) time (D.DrawSource.ahead source.old) (fet_of self.old)).sent }
+        ensures late { result.late ≡ (fetched P.Ordered.own K.Ordered.own (L.Link.word link.old) time (D.DrawSource.ahead source.old) (fet_of self.old)).late }
+        ensures wait { result.wait ≡ (fetched P.Ordered.own K.Ordered.own (L.Link.word link.old) time (D.DrawSource.ahead source.old) (fet_of self.old)).wait }
+        ensures allowed { result.allowed ≡ (fetched P.Ordered.own K.Ordered.own (L.Link.word link.old) time (D.DrawSource.ahead source.old) (fet_of self.old)).allowed }
+        ensures words { D.DrawSource.ahead source.new ≡ (fetched P.Ordered.own K.Ordered.own (L.Link.word link.old) time (D.DrawSource.ahead source.old) (fet_of self.old)).words }
+        ensures state { fet_of self.new ≡ with_next (fetched P.Ordered.own K.Ordered.own (L.Link.word link.old) time (D.DrawSource.ahead source.old) (fet_of self.old)).next (fet_of self.old) }
         ensures unused { Unused (fet_of self.old).keys.rows result.sent }
         ensures link { Carried L.Link.count L.Link.latest link.old result.sent link.new }
-        ensures first { First (L.Link.word link.old) time (fet_of self.old).roster.peers.rows (aims P.Ordered K.Ordered (fet_of self.old).targets.rows) (fet_of self.old).roster.shares (queue K.Ordered (fet_of self.old)) result.sent }
-        ensures quiet { Quiet (L.Link.word link.old) time (fet_of self.old).roster.peers.rows (aims P.Ordered K.Ordered (fet_of self.old).targets.rows) (fet_of self.old).roster.shares (queue K.Ordered (fet_of self.old)) result.sent (fetched P.Ordered K.Ordered (L.Link.word link.old) time (D.DrawSource.ahead source.old) (fet_of self.old)).wait }
+        ensures first { First (L.Link.word link.old) time (fet_of self.old).roster.peers.rows (aims P.Ordered.own K.Ordered.own (fet_of self.old).targets.rows) (fet_of self.old).roster.shares (queue K.Ordered.own (fet_of self.old)) result.sent }
+        ensures quiet { Quiet (L.Link.word link.old) time (fet_of self.old).roster.peers.rows (aims P.Ordered.own K.Ordered.own (fet_of self.old).targets.rows) (fet_of self.old).roster.shares (queue K.Ordered.own (fet_of self.old)) result.sent (fetched P.Ordered.own K.Ordered.own (L.Link.word link.old) time (D.DrawSource.ahead source.old) (fet_of self.old)).wait }
     {
         self.keys.list();
         send_first(
@@ -94,13 +94,13 @@ impl<P: Ordered, V: Rating, K: Ordered> Fetcher<P, V, K> {
         source: &mut D,
         time: u64,
     ) -> Option<Message<P, K>>
-        ensures answer { result ≡ fetch_answer P.Ordered K.Ordered (L.Link.word link.old) time (D.DrawSource.ahead source.old) (fet_of self.old) }
-        ensures words { D.DrawSource.ahead source.new ≡ fetch_words P.Ordered K.Ordered (L.Link.word link.old) time (D.DrawSource.ahead source.old) (fet_of self.old) }
-        ensures state { fet_of self.new ≡ fetch_step P.Ordered K.Ordered (L.Link.word link.old) time (D.DrawSource.ahead source.old) (fet_of self.old) }
+        ensures answer { result ≡ fetch_answer P.Ordered.own K.Ordered.own (L.Link.word link.old) time (D.DrawSource.ahead source.old) (fet_of self.old) }
+        ensures words { D.DrawSource.ahead source.new ≡ fetch_words P.Ordered.own K.Ordered.own (L.Link.word link.old) time (D.DrawSource.ahead source.old) (fet_of self.old) }
+        ensures state { fet_of self.new ≡ fetch_step P.Ordered.own K.Ordered.own (L.Link.word link.old) time (D.DrawSource.ahead source.old) (fet_of self.old) }
         ensures unused { Unused (fet_of self.old).keys.rows result }
         ensures link { Carried L.Link.count L.Link.latest link.old result link.new }
-        ensures first { First (L.Link.word link.old) time (fet_of self.old).roster.peers.rows (aims P.Ordered K.Ordered (fet_of self.old).targets.rows) (fet_of self.old).roster.shares (queue K.Ordered (fet_of self.old)) result }
-        ensures quiet { Quiet (L.Link.word link.old) time (fet_of self.old).roster.peers.rows (aims P.Ordered K.Ordered (fet_of self.old).targets.rows) (fet_of self.old).roster.shares (queue K.Ordered (fet_of self.old)) result (fetched P.Ordered K.Ordered (L.Link.word link.old) time (D.DrawSource.ahead source.old) (fet_of self.old)).wait }
+        ensures first { First (L.Link.word link.old) time (fet_of self.old).roster.peers.rows (aims P.Ordered.own K.Ordered.own (fet_of self.old).targets.rows) (fet_of self.old).roster.shares (queue K.Ordered.own (fet_of self.old)) result }
+        ensures quiet { Quiet (L.Link.word link.old) time (fet_of self.old).roster.peers.rows (aims P.Ordered.own K.Ordered.own (fet_of self.old).targets.rows) (fet_of self.old).roster.shares (queue K.Ordered.own (fet_of self.old)) result (fetched P.Ordered.own K.Ordered.own (L.Link.word link.old) time (D.DrawSource.ahead source.old) (fet_of self.old)).wait }
     {
         let walked = self.send_next(link, source, time);
         self.waiter = waiter_of(&walked, time.saturating_add(self.delay));
@@ -116,13 +116,13 @@ impl<P: Ordered, V: Rating, K: Ordered> Fetcher<P, V, K> {
         source: &mut D,
         time: u64,
     ) -> Option<Message<P, K>>
-        ensures answer { result ≡ fetch_answer P.Ordered K.Ordered (L.Link.word link.old) time (D.DrawSource.ahead source.old) (fet_of self.old) }
-        ensures words { D.DrawSource.ahead source.new ≡ fetch_words P.Ordered K.Ordered (L.Link.word link.old) time (D.DrawSource.ahead source.old) (fet_of self.old) }
-        ensures state { fet_of self.new ≡ fetch_step P.Ordered K.Ordered (L.Link.word link.old) time (D.DrawSource.ahead source.old) (fet_of self.old) }
+        ensures answer { result ≡ fetch_answer P.Ordered.own K.Ordered.own (L.Link.word link.old) time (D.DrawSource.ahead source.old) (fet_of self.old) }
+        ensures words { D.DrawSource.ahead source.new ≡ fetch_words P.Ordered.own K.Ordered.own (L.Link.word link.old) time (D.DrawSource.ahead source.old) (fet_of self.old) }
+        ensures state { fet_of self.new ≡ fetch_step P.Ordered.own K.Ordered.own (L.Link.word link.old) time (D.DrawSource.ahead source.old) (fet_of self.old) }
         ensures unused { Unused (fet_of self.old).keys.rows result }
         ensures link { Carried L.Link.count L.Link.latest link.old result link.new }
-        ensures quiet { Quiet (L.Link.word link.old) time (fet_of self.old).roster.peers.rows (aims P.Ordered K.Ordered (fet_of self.old).targets.rows) (fet_of self.old).roster.shares (queue K.Ordered (fet_of self.old)) result (fetched P.Ordered K.Ordered (L.Link.word link.old) time (D.DrawSource.ahead source.old) (fet_of self.old)).wait }
-        ensures law { Fair P.Ordered K.Ordered (L.Link.word link.old) time (fet_of self.old) result (fet_of self.new) }
+        ensures quiet { Quiet (L.Link.word link.old) time (fet_of self.old).roster.peers.rows (aims P.Ordered.own K.Ordered.own (fet_of self.old).targets.rows) (fet_of self.old).roster.shares (queue K.Ordered.own (fet_of self.old)) result (fetched P.Ordered.own K.Ordered.own (L.Link.word link.old) time (D.DrawSource.ahead source.old) (fet_of self.old)).wait }
+        ensures law { Fair P.Ordered.own K.Ordered.own (L.Link.word link.old) time (fet_of self.old) result (fet_of self.new) }
     {
         self.send_due(link, source, time)
     }

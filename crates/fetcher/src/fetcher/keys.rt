@@ -28,8 +28,8 @@ fn retry_event<K: Ordered, P: Ordered>(row: Option<KeyRow<K, P>>, deadline: u64)
 impl<P: Ordered, V: Rating, K: Ordered> Fetcher<P, V, K> {
     // Adds peers to the targets of a live key. Answers whether the key is live.
     pub fn add_targets(&mut self, key: K, peers: &[P]) -> bool
-        ensures answer { result ≡ aim_answer K.Ordered key (fet_of self.old) }
-        ensures state { fet_of self.new ≡ aim_step P.Ordered K.Ordered key peers.now (fet_of self.old) }
+        ensures answer { result ≡ aim_answer K.Ordered.own key (fet_of self.old) }
+        ensures state { fet_of self.new ≡ aim_step P.Ordered.own K.Ordered.own key peers.now (fet_of self.old) }
     {
         if self.keys.get(key).is_none() {
             return false;
@@ -42,8 +42,8 @@ impl<P: Ordered, V: Rating, K: Ordered> Fetcher<P, V, K> {
 
     // Takes the target set off a live key: any allowed peer may then be asked. Answers whether the key is live.
     pub fn clear_targets(&mut self, key: K) -> bool
-        ensures answer { result ≡ aim_answer K.Ordered key (fet_of self.old) }
-        ensures state { fet_of self.new ≡ unaim_step K.Ordered key (fet_of self.old) }
+        ensures answer { result ≡ aim_answer K.Ordered.own key (fet_of self.old) }
+        ensures state { fet_of self.new ≡ unaim_step K.Ordered.own key (fet_of self.old) }
     {
         if self.keys.get(key).is_none() {
             return false;
@@ -56,7 +56,7 @@ impl<P: Ordered, V: Rating, K: Ordered> Fetcher<P, V, K> {
 
     // Whether a live key has a target set.
     pub fn has_targets(&self, key: K) -> bool
-        ensures { result ≡ has_aim (row_of K.Ordered key (fet_of self.now)) }
+        ensures { result ≡ has_aim (row_of K.Ordered.own key (fet_of self.now)) }
     {
         match self.keys.get(key) {
             Some(row) => row.aimed,
@@ -67,8 +67,8 @@ impl<P: Ordered, V: Rating, K: Ordered> Fetcher<P, V, K> {
     // Queues a new key ahead of all retries, due at once. Answers whether the key was new and had room; otherwise
     // nothing changes.
     pub fn add_ready(&mut self, key: K, time: u64) -> bool
-        ensures answer { result ≡ ready_answer K.Ordered key (fet_of self.old) }
-        ensures state { fet_of self.new ≡ ready_step K.Ordered key time (fet_of self.old) }
+        ensures answer { result ≡ ready_answer K.Ordered.own key (fet_of self.old) }
+        ensures state { fet_of self.new ≡ ready_step K.Ordered.own key time (fet_of self.old) }
     {
         if self.keys.get(key).is_some() {
             return false;
@@ -83,8 +83,8 @@ impl<P: Ordered, V: Rating, K: Ordered> Fetcher<P, V, K> {
     // Queues a key again that is out or under judgement, due after the delay, with one retry more. Answers whether it
     // moved; otherwise nothing changes.
     pub fn add_retry(&mut self, key: K, time: u64) -> bool
-        ensures answer { result ≡ retry_answer K.Ordered key time (fet_of self.old) }
-        ensures state { fet_of self.new ≡ retry_step K.Ordered key time (fet_of self.old) }
+        ensures answer { result ≡ retry_answer K.Ordered.own key time (fet_of self.old) }
+        ensures state { fet_of self.new ≡ retry_step K.Ordered.own key time (fet_of self.old) }
     {
         let event = retry_event(self.keys.get(key), time.saturating_add(self.delay));
         if !self.keys.apply(key, event) {
@@ -96,23 +96,23 @@ impl<P: Ordered, V: Rating, K: Ordered> Fetcher<P, V, K> {
 
     // A key that is out comes under judgement by a slip. Answers whether it moved.
     pub fn hand_out(&mut self, key: K, slip: u32) -> bool
-        ensures answer { result ≡ move_answer K.Ordered key (Answered slip) (fet_of self.old) }
-        ensures state { fet_of self.new ≡ moved K.Ordered key (Answered slip) (fet_of self.old) }
+        ensures answer { result ≡ move_answer K.Ordered.own key (Answered slip) (fet_of self.old) }
+        ensures state { fet_of self.new ≡ moved K.Ordered.own key (Answered slip) (fet_of self.old) }
     {
         self.keys.apply(key, Event::Answered { slip })
     }
 
     // A key under judgement comes under another slip. Answers whether it moved.
     pub fn hand_on(&mut self, key: K, slip: u32) -> bool
-        ensures answer { result ≡ move_answer K.Ordered key (Redelivered slip) (fet_of self.old) }
-        ensures state { fet_of self.new ≡ moved K.Ordered key (Redelivered slip) (fet_of self.old) }
+        ensures answer { result ≡ move_answer K.Ordered.own key (Redelivered slip) (fet_of self.old) }
+        ensures state { fet_of self.new ≡ moved K.Ordered.own key (Redelivered slip) (fet_of self.old) }
     {
         self.keys.apply(key, Event::Redelivered { slip })
     }
 
     // Retires a key: its row and its targets go. The waiter stands.
     pub fn clear(&mut self, key: K)
-        ensures { fet_of self.new ≡ clear_step K.Ordered key (fet_of self.old) }
+        ensures { fet_of self.new ≡ clear_step K.Ordered.own key (fet_of self.old) }
     {
         let _ = self.keys.remove(key);
         self.targets.clear(key);
@@ -120,7 +120,7 @@ impl<P: Ordered, V: Rating, K: Ordered> Fetcher<P, V, K> {
 
     // Keeps the keys that somebody waits for, with their targets.
     pub fn retain<S: Ordered>(&mut self, waiting: &Subscribers<K, S>)
-        ensures { fet_of self.new ≡ retain_step K.Ordered (tab_of waiting.now.table).rows (fet_of self.old) }
+        ensures { fet_of self.new ≡ retain_step K.Ordered.own (tab_of waiting.now.table).rows (fet_of self.old) }
     {
         retain_waited(&mut self.keys, waiting);
         self.targets.retain_live(&self.keys);

@@ -45,7 +45,7 @@ impl<P: Ordered, V: Rating, K: Ordered> Fetcher<P, V, K> {
     // without room nothing changes.
     pub fn reconcile(&mut self, list: &[P]) -> bool
         ensures answer { result ≡ reconcile_answer list.now (fet_of self.old) }
-        ensures state { fet_of self.new ≡ reconcile_step P.Ordered V.Rating list.now (fet_of self.old) }
+        ensures state { fet_of self.new ≡ reconcile_step P.Ordered.own V.Rating list.now (fet_of self.old) }
     {
         if !self.roster.reconcile(list, self.own, &self.blocked) {
             return false;
@@ -58,7 +58,7 @@ impl<P: Ordered, V: Rating, K: Ordered> Fetcher<P, V, K> {
     // was room for it; without room nothing changes.
     pub fn set_blocked(&mut self, list: &[P]) -> bool
         ensures answer { result ≡ block_answer list.now (fet_of self.old) }
-        ensures state { fet_of self.new ≡ block_step P.Ordered V.Rating list.now (fet_of self.old) }
+        ensures state { fet_of self.new ≡ block_step P.Ordered.own V.Rating list.now (fet_of self.old) }
     {
         if !self.blocked.fill(list) {
             return false;
@@ -70,7 +70,7 @@ impl<P: Ordered, V: Rating, K: Ordered> Fetcher<P, V, K> {
 
     // Attributes a response to the peer that sent it.
     pub fn record_response(&mut self, peer: P, elapsed: u64, size: u64)
-        ensures { fet_of self.new ≡ recorded P.Ordered V.Rating peer elapsed size (fet_of self.old) }
+        ensures { fet_of self.new ≡ recorded P.Ordered.own V.Rating peer elapsed size (fet_of self.old) }
     {
         self.roster.record(peer, elapsed, size);
     }

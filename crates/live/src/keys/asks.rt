@@ -14,14 +14,14 @@ use tables::{best, first};
 impl<K: Ordered, P: Ordered> LiveKeys<K, P> {
     // The first queued key.
     pub fn first_queued(&self) -> Option<QueueRow<K>>
-        ensures { result ≡ first_queued K.Ordered (tab_of self.now.table).rows }
+        ensures { result ≡ first_queued K.Ordered.own (tab_of self.now.table).rows }
     {
         best(self.table.rows(), &QueueFrom { last: None })
     }
 
     // The next queued key after one.
     pub fn next_queued(&self, last: QueueRow<K>) -> Option<QueueRow<K>>
-        ensures { result ≡ next_queued K.Ordered last (tab_of self.now.table).rows }
+        ensures { result ≡ next_queued K.Ordered.own last (tab_of self.now.table).rows }
     {
         best(self.table.rows(), &QueueFrom { last: Some(last) })
     }
@@ -29,7 +29,7 @@ impl<K: Ordered, P: Ordered> LiveKeys<K, P> {
     // Lists the whole queue, in its order.
     pub fn list(&mut self)
         ensures table { tab_of self.new.table ≡ tab_of self.old.table }
-        ensures queue { tab_of self.new.queue ≡ queue_on K.Ordered (emptied (tab_of self.old.queue)) (tab_of self.old.table).rows }
+        ensures queue { tab_of self.new.queue ≡ queue_on K.Ordered.own (emptied (tab_of self.old.queue)) (tab_of self.old.table).rows }
     {
         list_queue(&mut self.queue, self.table.rows());
     }
@@ -43,7 +43,7 @@ impl<K: Ordered, P: Ordered> LiveKeys<K, P> {
 
     // The key that is out under an id at a peer, with its start.
     pub fn asked(&self, id: u64, peer: P) -> Option<(K, u64)>
-        ensures { result ≡ asked P.Ordered id peer (tab_of self.now.table).rows }
+        ensures { result ≡ asked P.Ordered.own id peer (tab_of self.now.table).rows }
     {
         asked_in(self.table.rows(), id, peer)
     }

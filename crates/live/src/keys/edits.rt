@@ -45,8 +45,8 @@ impl<K: Ordered, P: Ordered> LiveKeys<K, P> {
 
     // Moves a key by an event, as its stage says. Answers whether it moved.
     pub fn apply(&mut self, key: K, event: Event<P>) -> bool
-        ensures answer { result ≡ step_fits K.Ordered key event (tab_of self.old.table) }
-        ensures table { tab_of self.new.table ≡ stepped K.Ordered key event (tab_of self.old.table) }
+        ensures answer { result ≡ step_fits K.Ordered.own key event (tab_of self.old.table) }
+        ensures table { tab_of self.new.table ≡ stepped K.Ordered.own key event (tab_of self.old.table) }
         ensures queue { tab_of self.new.queue ≡ tab_of self.old.queue }
     {
         let Some(row) = self.table.get(key) else {
@@ -60,8 +60,8 @@ impl<K: Ordered, P: Ordered> LiveKeys<K, P> {
 
     // Says whether a live key has a target set. Answers whether it is live.
     pub fn aim(&mut self, key: K, aimed: bool) -> bool
-        ensures answer { result ≡ aim_fits K.Ordered key aimed (tab_of self.old.table) }
-        ensures table { tab_of self.new.table ≡ aimed_in K.Ordered key aimed (tab_of self.old.table) }
+        ensures answer { result ≡ aim_fits K.Ordered.own key aimed (tab_of self.old.table) }
+        ensures table { tab_of self.new.table ≡ aimed_in K.Ordered.own key aimed (tab_of self.old.table) }
         ensures queue { tab_of self.new.queue ≡ tab_of self.old.queue }
     {
         match self.table.get(key) {

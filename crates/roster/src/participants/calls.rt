@@ -20,8 +20,8 @@ fn record_row<P: Ordered, V: Rating>(
     elapsed: u64,
     size: u64,
 ) -> Option<(usize, u64)>
-    ensures answer { result ≡ new_weight P.Ordered V.Rating peer elapsed size rows.old.items }
-    ensures items { rows.new.items ≡ rerated_in P.Ordered V.Rating peer elapsed size rows.old.items }
+    ensures answer { result ≡ new_weight P.Ordered.own V.Rating peer elapsed size rows.old.items }
+    ensures items { rows.new.items ≡ rerated_in P.Ordered.own V.Rating peer elapsed size rows.old.items }
     ensures len { vec_len rows.new ≡ vec_len rows.old }
     ensures capacity { vec_capacity rows.new ≡ vec_capacity rows.old }
     ensures bound { IfSome result (λ x. x.1 ≤ most_weight) }
@@ -41,7 +41,7 @@ impl<P: Ordered, V: Rating> Participants<P, V> {
     // whether there was room for it.
     pub fn reconcile(&mut self, list: &[P], own: Option<P>, blocked: &Table<Only<P>>) -> bool
         ensures answer { result ≡ nat_le (length list.now) (roster_of self.old).peers.most }
-        ensures roster { roster_of self.new ≡ taken_over P.Ordered V.Rating own (tab_of blocked.now).rows list.now (roster_of self.old) }
+        ensures roster { roster_of self.new ≡ taken_over P.Ordered.own V.Rating own (tab_of blocked.now).rows list.now (roster_of self.old) }
     {
         if self.most < list.len() {
             return false;
@@ -55,14 +55,14 @@ impl<P: Ordered, V: Rating> Participants<P, V> {
 
     // Weighs every row anew, as after a change of the blocked list.
     pub fn weigh(&mut self, me: Option<P>, blocked: &Table<Only<P>>)
-        ensures { roster_of self.new ≡ weighed_in P.Ordered V.Rating me (tab_of blocked.now).rows (roster_of self.old) }
+        ensures { roster_of self.new ≡ weighed_in P.Ordered.own V.Rating me (tab_of blocked.now).rows (roster_of self.old) }
     {
         weigh_all(self.rows.as_slice(), me, blocked, &mut self.shares);
     }
 
     // Records an exchange in the row of a peer, and in no other. Its share stays 0 where it is 0.
     pub fn record(&mut self, peer: P, elapsed: u64, size: u64)
-        ensures { roster_of self.new ≡ recorded_in P.Ordered V.Rating peer elapsed size (roster_of self.old) }
+        ensures { roster_of self.new ≡ recorded_in P.Ordered.own V.Rating peer elapsed size (roster_of self.old) }
     {
         match record_row(&mut self.rows, peer, elapsed, size) {
             Some((i, weight)) => reweigh(&mut self.shares, i, weight),

@@ -89,7 +89,7 @@ impl<P: Ordered, V: Rating> Participants<P, V> {
 
     // The weight of a peer of the roster.
     pub fn weight(&self, peer: P) -> Option<u64>
-        ensures { result ≡ weight_of P.Ordered peer (roster_of self.now) }
+        ensures { result ≡ weight_of P.Ordered.own peer (roster_of self.now) }
     {
         match self.find(peer) {
             Ok(i) => match row_at(self.shares.as_slice(), i) {
