@@ -2,8 +2,8 @@
 ghost use Rattle.std.specs.Prelude.{◌≡◌};
 ghost use Rattle.kinds.specs.Order.{by_bytes};
 ghost use Rattle.kinds.specs.Lex.{bytes_equal, bytes_same};
-ghost use Rattle.kinds.specs.Values.{bytes32_same};
-ghost use Rattle.std.proofs.Common.{rules, arith};
+ghost use Rattle.kinds.specs.Values.{named_same};
+ghost use Rattle.std.proofs.Common.{rules};
 
 use crate::bytes32::Bytes32;
 use crate::ordered::Ordered;
@@ -51,7 +51,7 @@ impl<R> Ordered for Named<R> {
 
     ghost equals = { λ x y. bytes_equal x.bytes.bytes y.bytes.bytes };
 
-    ghost same = { λ x y h. let e = bytes32_same x.bytes y.bytes (bytes_same x.bytes.bytes y.bytes.bytes h) in Prim.grind (arith, Self.row.coded.inj) };
+    ghost same = { λ x y h. named_same x y (bytes_same x.bytes.bytes y.bytes.bytes h) };
 }
 
 impl<R> Storable for Named<R> {
@@ -63,7 +63,7 @@ impl<R> Storable for Named<R> {
 
     ghost wide = { Prim.search rules };
 
-    ghost distinct = { λ x y h. let e = bytes32_same x.bytes y.bytes h in Prim.grind (arith, Self.row.coded.inj) };
+    ghost distinct = { named_same };
 
     fn size() -> u16 {
         Bytes32::size()
