@@ -1,6 +1,7 @@
 pub mod Rows
 pub mod Lists
 pub mod Scans
+pub mod Sweeps
 pub mod Only
 pub mod Errors
 pub mod Tables

@@ -9,7 +9,7 @@ mod table;
 
 pub use lists::{fits_table, in_order};
 pub use places::{place, row_at};
-pub use row::{Only, Row, RowRule};
+pub use row::{Only, Row};
 pub use scans::{Probe, Ranking, best, first};
 pub use table::Table;
 pub use table::error::TableError;

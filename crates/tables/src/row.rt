@@ -1,5 +1,5 @@
 // What a table holds, and what a rule makes of it.
-ghost use Rattle.std.specs.Prelude.{◌≡◌, Option as Maybe};
+ghost use Rattle.std.specs.Prelude.{◌≡◌};
 
 use kinds::Ordered;
 
@@ -11,14 +11,6 @@ pub trait Row: Copy {
 
     fn key(&self) -> Self::Key
         ensures { result ≡ key_of self.now };
-}
-
-// A rule keeps, changes or drops each row.
-pub trait RowRule<R> {
-    ghost ruled: { Self → R → Maybe R };
-
-    fn apply(&self, row: &R) -> Option<R>
-        ensures { result ≡ ruled self.now row.now };
 }
 
 // A row that is its key alone.

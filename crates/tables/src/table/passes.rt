@@ -1,10 +1,11 @@
 // What goes over all rows of a table.
-ghost use Rattle.std.specs.Prelude.{◌≡◌, ◌≤◌, length, vec_len, vec_capacity, nat_le};
-ghost use Rattle.tables.specs.Rows.{swept};
+ghost use Rattle.std.specs.Prelude.{◌≡◌, ◌≤◌, length, vec_len, vec_capacity, nat_le, Option as Maybe};
+ghost use Rattle.std.specs.Fn.{ComputesKey};
 ghost use Rattle.tables.specs.Only.{only_rows};
+ghost use Rattle.tables.specs.Sweeps.{Ruled};
 ghost use Rattle.tables.specs.Tables.{tab_of, emptied, sweep_by, fill_with};
 
-use crate::row::{Only, Row, RowRule};
+use crate::row::{Only, Row};
 use crate::table::Table;
 use kinds::Ordered;
 
@@ -21,26 +22,6 @@ fn refill<K: Copy>(rows: &mut Vec<Only<K>>, list: &[K])
     }
 }
 
-// Keeps, changes or drops each item.
-fn sweep_rows<R: Copy, W: RowRule<R>>(rows: &mut Vec<R>, rule: &W)
-    ensures items { rows.new.items ≡ swept (W.RowRule.ruled rule.now) rows.old.items }
-    ensures len { vec_len rows.new ≤ vec_len rows.old }
-    ensures capacity { vec_capacity rows.new ≡ vec_capacity rows.old }
-{
-    let mut next = 0;
-    for i in 0..rows.len() {
-        let row = rows[i];
-        match rule.apply(&row) {
-            Some(new) => {
-                rows[next] = new;
-                next += 1;
-            }
-            None => {}
-        }
-    }
-    rows.truncate(next);
-}
-
 impl<R: Row> Table<R> {
     // Drops every row.
     pub fn clear(&mut self)
@@ -50,10 +31,25 @@ impl<R: Row> Table<R> {
     }
 
     // Keeps, changes or drops each row, in one pass.
-    pub fn sweep<W: RowRule<R>>(&mut self, rule: &W)
-        ensures { tab_of self.new ≡ sweep_by (W.RowRule.ruled rule.now) (tab_of self.old) }
+    #[tactic(auto, using(crate::proofs::Sweeps::ruled_some, crate::proofs::Sweeps::ruled_none))]
+    pub fn sweep<F: FnMut(&R) -> Option<R>>(&mut self, mut rule: F)
+        requires { F.IsAlwaysCallable rule }
+        ensures { (f : R → Maybe R) → ComputesKey F.FnMut f rule → tab_of self.new ≡ sweep_by f (tab_of self.old) }
     {
-        sweep_rows(&mut self.rows, rule);
+        self.rows.retain_mut(
+            |row|
+                requires { F.IsAlwaysCallable rule }
+                ensures { Ruled F.FnMut rule.entry row.old result rule.exit row.new }
+            {
+                match rule(row) {
+                    Some(new) => {
+                        *row = new;
+                        true
+                    }
+                    None => false,
+                }
+            },
+        );
     }
 }
 
