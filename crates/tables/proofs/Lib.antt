@@ -5,6 +5,7 @@ pub mod Edits
 pub mod WalkLaws
 pub mod Halving
 pub mod Sweeps
+pub mod Computed
 pub mod Lawfuls
 pub mod Laws
 pub mod Finds
