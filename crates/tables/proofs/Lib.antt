@@ -6,6 +6,8 @@ pub mod WalkLaws
 pub mod Halving
 pub mod Sweeps
 pub mod Computed
+pub mod Found
+pub mod Choices
 pub mod Lawfuls
 pub mod Laws
 pub mod Finds

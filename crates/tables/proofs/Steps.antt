@@ -1,8 +1,8 @@
 -- One row more of what is defined along a list.
-use Rattle.std.proofs.Common.{◌≡◌, ℕ, zero, suc, ◌+◌, ◌-◌, ◌<◌, ◌≤◌, Bool, true, ◌&&◌, List, [], ◌∷◌, ◌++◌, length, get_or, take, drop, Some, None, Option, Ordering, sym, refl, ap, ◌∙◌, append_assoc, add-one, arith, length-drop}
+use Rattle.std.proofs.Common.{◌≡◌, ℕ, zero, suc, ◌+◌, ◌-◌, ◌<◌, ◌≤◌, Bool, true, ◌&&◌, List, [], ◌∷◌, ◌++◌, length, get_or, take, drop, Some, Option, Ordering, sym, refl, ap, ◌∙◌, append_assoc, add-one, arith, length-drop}
 use Rattle.tables.specs.Lists.{after, ordered_from}
 use Rattle.tables.specs.Only.{only, only_rows}
-use Rattle.tables.specs.Scans.{or_else, first_of, better, best_from}
+use Rattle.tables.specs.Scans.{better, best_from}
 
 peel' : {X : Type 0} (xs : List X) (i : ℕ) (x : X) → i < length xs → x ≡ get_or xs i x → drop i xs ≡ x ∷ drop (suc i) xs
 peel' [] i x l e = absurd (omega arith)
@@ -60,14 +60,6 @@ module _ {T : Type 0} (order : T → T → Ordering) (last : Option T) (xs : Lis
   ordered_end l = rw (spent xs i l) refl
 
 module _ {R A : Type 0} (f : R → Option A) (xs : List R) (i : ℕ) where
-  pub first_more : (x : R) → i < length xs → x ≡ get_or xs i x → first_of f (drop i xs) ≡ or_else (f x) (first_of f (drop (i + 1) xs))
-  unfolding first_of
-  first_more x l e = rw (peel xs i x l e) refl
-
-  pub first_end : length xs ≤ i → first_of f (drop i xs) ≡ None
-  unfolding first_of
-  first_end l = rw (spent xs i l) refl
-
   pub best_more : (ahead : A → A → Bool) (best : Option A) (x : R) → i < length xs → x ≡ get_or xs i x → best_from ahead f best (drop i xs) ≡ best_from ahead f (better ahead best (f x)) (drop (i + 1) xs)
   unfolding best_from
   best_more ahead best x l e = rw (peel xs i x l e) refl

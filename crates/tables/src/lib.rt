@@ -10,6 +10,6 @@ mod table;
 pub use lists::{fits_table, in_order};
 pub use places::{place, row_at};
 pub use row::{Only, Row};
-pub use scans::{Probe, Ranking, best, first};
+pub use scans::{best, first};
 pub use table::Table;
 pub use table::error::TableError;

@@ -1,76 +1,48 @@
 // What is found by going over rows.
-ghost use Rattle.std.specs.Prelude.{◌≡◌, Bool as Flag, None as Nothing, Option as Maybe};
-ghost use Rattle.tables.specs.Scans.{first_of, better, best_from, best_of};
+ghost use Rattle.std.specs.Prelude.{◌≡◌, Bool as Flag, Option as Maybe};
+ghost use Rattle.std.specs.Fn.{ComputesKey, ComputesOnPairs};
+ghost use Rattle.tables.specs.Scans.{first_of, better, best_of};
 
-// What is found in a row.
-pub trait Probe<R, A> {
-    ghost finds: { Self → R → Maybe A };
-
-    fn probe(&self, row: &R) -> Option<A>
-        ensures { result ≡ finds self.now row.now };
-}
-
-// What is found in a row, and which of two comes first.
-pub trait Ranking<R, A> {
-    ghost offers: { Self → R → Maybe A };
-
-    ghost ahead: { A → A → Flag };
-
-    fn offer(&self, row: &R) -> Option<A>
-        ensures { result ≡ offers self.now row.now };
-
-    fn comes_first(a: &A, b: &A) -> bool
-        ensures { result ≡ ahead a.now b.now };
-}
-
-// The walk to the first row in which a probe finds something.
-fn walk_first<R, A, F: Probe<R, A>>(rows: &[R], probe: &F) -> Option<A>
-    ensures { result ≡ first_of (F.Probe.finds probe.now) rows.now }
+// What is found in the first row in which something is found.
+pub fn first<R, A, F: FnMut(&R) -> Option<A>>(rows: &[R], find: F) -> Option<A>
+    requires { F.IsAlwaysCallable find }
+    ensures { (f : R → Maybe A) → ComputesKey F.FnMut f find → result ≡ first_of f rows.now }
 {
-    for row in rows {
-        if let Some(found) = probe.probe(row) {
-            return Some(found);
-        }
-    }
-    None
+    // Not `find_map`: tried, and its clauses let it answer `None` before the end where the closure changes with a call.
+    rows.iter().filter_map(find).next()
 }
 
 // The one of two that comes first; the older one where neither does.
-fn better_of<R, A: Copy, F: Ranking<R, A>>(best: Option<A>, next: Option<A>) -> Option<A>
-    ensures { result ≡ better F.Ranking.ahead best next }
+#[tactic(auto, using(crate::proofs::Choices::computes_on, crate::proofs::Choices::newer, crate::proofs::Choices::older))]
+fn better<A: Copy, C: FnMut(&A, &A) -> bool>(
+    best: Option<A>,
+    next: Option<A>,
+    ahead: &mut C,
+) -> Option<A>
+    requires { C.IsAlwaysCallable ahead.old }
+    ensures callable { C.IsAlwaysCallable ahead.new }
+    ensures computes { (p : A → A → Flag) → ComputesOnPairs C.FnMut p ahead.old → ComputesOnPairs C.FnMut p ahead.new }
+    ensures better { (p : A → A → Flag) → ComputesOnPairs C.FnMut p ahead.old → result ≡ better p best next }
 {
     match (best, next) {
-        (best, None) => best,
-        (None, Some(a)) => Some(a),
-        (Some(b), Some(a)) => if F::comes_first(&a, &b) {
-            Some(a)
-        } else {
-            Some(b)
-        },
+        (Some(b), Some(a)) => if ahead(&a, &b) { Some(a) } else { Some(b) },
+        (b, a) => a.or(b),
     }
 }
 
-// The walk over all rows for the one that comes first.
-fn walk_best<R, A: Copy, F: Ranking<R, A>>(rows: &[R], ranking: &F) -> Option<A>
-    ensures { result ≡ best_of F.Ranking.ahead (F.Ranking.offers ranking.now) rows.now }
+// The one of those found in the rows that comes first; of two where neither does, the older one.
+pub fn best<R, A: Copy, F: FnMut(&R) -> Option<A>, C: FnMut(&A, &A) -> bool>(
+    rows: &[R],
+    mut find: F,
+    mut ahead: C,
+) -> Option<A>
+    requires find { F.IsAlwaysCallable find }
+    requires ahead { C.IsAlwaysCallable ahead }
+    ensures { (f : R → Maybe A) (p : A → A → Flag) → ComputesKey F.FnMut f find → ComputesOnPairs C.FnMut p ahead → result ≡ best_of p f rows.now }
 {
-    let mut best: Option<A> = None;
+    let mut best = None;
     for row in rows {
-        best = better_of::<R, A, F>(best, ranking.offer(row));
+        best = better(best, find(row), &mut ahead);
     }
     best
-}
-
-// What a probe finds in the first row in which it finds something.
-pub fn first<R, A, F: Probe<R, A>>(rows: &[R], probe: &F) -> Option<A>
-    ensures { result ≡ first_of (F.Probe.finds probe.now) rows.now }
-{
-    walk_first(rows, probe)
-}
-
-// The one of those found in the rows that comes first.
-pub fn best<R, A: Copy, F: Ranking<R, A>>(rows: &[R], ranking: &F) -> Option<A>
-    ensures { result ≡ best_of F.Ranking.ahead (F.Ranking.offers ranking.now) rows.now }
-{
-    walk_best(rows, ranking)
 }
