@@ -1,5 +1,5 @@
 -- The search by halves: it needs no more turns than there are rows, and on rows in order it finds the place.
-use Rattle.std.proofs.Common.{◌≡◌, ℕ, zero, suc, ◌+◌, ◌-◌, ◌<◌, ◌≤◌, List, [], ◌∷◌, length, get_or, Some, None, Ok, Err, Option, Result, Ordering, Less, Equal, Greater, sym, refl, ap, ◌∙◌, subst, ⊎_elim, arith, le-ltb, lt-ltb}
+use Rattle.std.proofs.Common.{◌≡◌, ℕ, zero, suc, ◌+◌, ◌-◌, ◌<◌, ◌≤◌, List, [], ◌∷◌, length, get_or, Some, Ok, Err, Option, Result, Ordering, Less, Equal, Greater, sym, refl, ap, ◌∙◌, subst, ⊎_elim, arith, le-ltb, lt-ltb}
 use Rattle.std.proofs.lemmas.Bool.{cases_lt}
 use Rattle.tables.specs.Rows.{Lawful, Ascending, Lie, Placed, by, row_at, halfway, turn_at, halved, between, place_by, place_of}
 use Rattle.tables.proofs.Searches.{less_before, less_upto, greater_from}
@@ -54,6 +54,12 @@ module _ {R : Type 0} (test : R → Ordering) (rows : List R) where
       let d = enough n (halfway low high - low) low (halfway low high) (omega arith) (omega arith) in
       cc
 
+  -- a turn by what the test says of the row in the middle
+  pub between_by : (low high : ℕ) (row : R) (o : Ordering) → low < high → high ≤ length rows → row ≡ get_or rows (halfway low high) row → test row ≡ o
+      → between test rows low high ≡ by o (between test rows (halfway low high + 1) high) (Ok (halfway low high)) (between test rows low (halfway low high))
+  between_by low high row o lt le is e =
+      between_turn low high row lt le is ∙ ap (λ x. by x (between test rows (halfway low high + 1) high) (Ok (halfway low high)) (between test rows low (halfway low high))) e
+
   pub place_between : place_by test rows ≡ between test rows 0 (length rows)
   unfolding place_by
   place_between = refl
@@ -93,8 +99,3 @@ module _ {K R : Type 0} (order : K → K → Ordering) (key : R → K) (k : K) (
   pub place_placed : Lawful order → Ascending order key rows → Placed order key k rows (place_of order key k rows)
   unfolding place_by
   place_placed o up = halved_placed o up (length rows - 0) 0 (length rows) (omega arith) (omega arith) (omega arith) (λ m d ge lt. absurd (omega arith)) (λ m d ge lt. absurd (omega arith))
-
-pub row_past : {R : Type 0} (rows : List R) (i : ℕ) → length rows ≤ i → row_at rows i ≡ None
-row_past [] i l = refl
-row_past (r ∷ rs) zero l = absurd (omega arith)
-row_past (r ∷ rs) (suc i) l = row_past rs i (omega arith)

@@ -7,6 +7,7 @@ pub mod Halving
 pub mod Sweeps
 pub mod Computed
 pub mod Found
+pub mod Adjacent
 pub mod Choices
 pub mod Lawfuls
 pub mod Laws

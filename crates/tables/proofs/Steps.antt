@@ -1,28 +1,21 @@
 -- One row more of what is defined along a list.
-use Rattle.std.proofs.Common.{◌≡◌, ℕ, zero, suc, ◌+◌, ◌-◌, ◌<◌, ◌≤◌, Bool, true, ◌&&◌, List, [], ◌∷◌, ◌++◌, length, get_or, take, drop, Some, Option, Ordering, sym, refl, ap, ◌∙◌, append_assoc, add-one, arith, length-drop}
-use Rattle.tables.specs.Lists.{after, ordered_from}
+use Rattle.std.proofs.Common.{◌≡◌, ℕ, suc, ◌+◌, ◌-◌, ◌<◌, ◌≤◌, Bool, List, [], ◌∷◌, ◌++◌, length, get_or, take, drop, Option, sym, refl, ap, ◌∙◌, append_assoc, add-one, arith, length-drop}
+use Rattle.std.proofs.Math.ListN.{drop_of_length-le}
+use Rattle.std.proofs.Math.Seq.{drop-cons}
+use Rattle.std.proofs.lemmas.List.{append-nil, take_all}
 use Rattle.tables.specs.Only.{only, only_rows}
 use Rattle.tables.specs.Scans.{better, best_from}
 
-peel' : {X : Type 0} (xs : List X) (i : ℕ) (x : X) → i < length xs → x ≡ get_or xs i x → drop i xs ≡ x ∷ drop (suc i) xs
-peel' [] i x l e = absurd (omega arith)
-peel' (y ∷ ys) zero x l e = rw e refl
-peel' (y ∷ ys) (suc i) x l e = peel' ys i x (omega arith) e
-
 -- the value at i comes next
 pub peel : {X : Type 0} (xs : List X) (i : ℕ) (x : X) → i < length xs → x ≡ get_or xs i x → drop i xs ≡ x ∷ drop (i + 1) xs
-peel xs i x l e = rw (add-one i) (peel' xs i x l e)
+peel xs i x l e = rw (add-one i) (drop-cons xs i x l ∙ ap (λ y. y ∷ drop (suc i) xs) (sym e))
 
 -- nothing is left
 pub spent : {X : Type 0} (xs : List X) (i : ℕ) → length xs ≤ i → drop i xs ≡ []
-spent [] zero l = refl
-spent [] (suc i) l = refl
-spent (y ∷ ys) zero l = absurd (omega arith)
-spent (y ∷ ys) (suc i) l = spent ys i (omega arith)
+spent xs i l = drop_of_length-le xs l
 
 pub append_none : {X : Type 0} (xs : List X) → xs ++ [] ≡ xs
-append_none [] = refl
-append_none (x ∷ xs) = ap (λ t. x ∷ t) (append_none xs)
+append_none xs = append-nil xs
 
 -- a value made from the next one and put at the end of what is made
 pub made_over : {X Y : Type 0} (F : List X → List Y) (made all : List Y) (xs : List X) (i : ℕ) (x : X) (y : Y) → i < length xs → x ≡ get_or xs i x
@@ -40,24 +33,9 @@ pub only_none : {K : Type 0} → only_rows {K = K} [] ≡ []
 unfolding only_rows
 only_none = refl
 
-take_all : {X : Type 0} (xs : List X) (n : ℕ) → length xs ≤ n → take n xs ≡ xs
-take_all [] zero l = refl
-take_all [] (suc n) l = refl
-take_all (x ∷ xs) zero l = absurd (omega arith)
-take_all (x ∷ xs) (suc n) l = ap (λ t. x ∷ t) (take_all xs n (omega arith))
-
 -- what `&xs[k..]` is
 pub rest_is : {X : Type 0} (xs : List X) (k : ℕ) → take (length xs - k) (drop k xs) ≡ drop k xs
-rest_is xs k = take_all (drop k xs) (length xs - k) (simp length-drop (omega arith))
-
-module _ {T : Type 0} (order : T → T → Ordering) (last : Option T) (xs : List T) (i : ℕ) where
-  pub ordered_more : (x : T) → i < length xs → x ≡ get_or xs i x → ordered_from order last (drop i xs) ≡ (after order last x && ordered_from order (Some x) (drop (i + 1) xs))
-  unfolding ordered_from
-  ordered_more x l e = rw (peel xs i x l e) refl
-
-  pub ordered_end : length xs ≤ i → ordered_from order last (drop i xs) ≡ true
-  unfolding ordered_from
-  ordered_end l = rw (spent xs i l) refl
+rest_is xs k = take_all (length xs - k) (drop k xs) (simp length-drop (omega arith))
 
 module _ {R A : Type 0} (f : R → Option A) (xs : List R) (i : ℕ) where
   pub best_more : (ahead : A → A → Bool) (best : Option A) (x : R) → i < length xs → x ≡ get_or xs i x → best_from ahead f best (drop i xs) ≡ best_from ahead f (better ahead best (f x)) (drop (i + 1) xs)

@@ -6,8 +6,9 @@ use crate::row::Row;
 use kinds::Ordered;
 use std::cmp::Ordering;
 
-// The halving.
-fn halve<R: Row>(rows: &[R], key: R::Key) -> Result<usize, usize>
+// The place of the row of a key, or where such a row would go.
+// Kept as a loop: `binary_search_by` promises the place only for rows in order, and `place_of` names one for any rows.
+pub fn place<R: Row>(rows: &[R], key: R::Key) -> Result<usize, usize>
     ensures value { result ≡ place_of R.Key.Ordered.order R.Row.key_of key rows.now }
     ensures within { Within (length rows.now) result }
 {
@@ -24,24 +25,9 @@ fn halve<R: Row>(rows: &[R], key: R::Key) -> Result<usize, usize>
     Err(low)
 }
 
-// The place of the row of a key, or where such a row would go.
-pub fn place<R: Row>(rows: &[R], key: R::Key) -> Result<usize, usize>
-    ensures value { result ≡ place_of R.Key.Ordered.order R.Row.key_of key rows.now }
-    ensures within { Within (length rows.now) result }
-{
-    halve(rows, key)
-}
-
-// The reading.
-fn read<R: Copy>(rows: &[R], i: usize) -> Option<R>
-    ensures { result ≡ row_at rows.now i }
-{
-    if i < rows.len() { Some(rows[i]) } else { None }
-}
-
 // The row at a place.
 pub fn row_at<R: Copy>(rows: &[R], i: usize) -> Option<R>
     ensures { result ≡ row_at rows.now i }
 {
-    read(rows, i)
+    rows.get(i).copied()
 }

@@ -17,10 +17,8 @@ impl<R: Row> Table<R> {
         if most == 0 || bound < most {
             return Err(TableError::Rows);
         }
-        match Vec::with_capacity(heap, most) {
-            Ok(rows) => Ok(Table { engine, most, rows }),
-            Err(_) => Err(TableError::Memory),
-        }
+        let rows = Vec::with_capacity(heap, most)?;
+        Ok(Table { engine, most, rows })
     }
 
     pub fn len(&self) -> usize
@@ -59,10 +57,8 @@ impl<R: Row> Table<R> {
     pub fn get(&self, key: R::Key) -> Option<R>
         ensures { result ≡ lookup R.Key.Ordered.order R.Row.key_of key (tab_of self.now).rows }
     {
-        match self.find(key) {
-            Ok(i) => row_at(self.rows.as_slice(), i),
-            Err(_) => None,
-        }
+        let i = self.find(key).ok()?;
+        self.at(i)
     }
 
     // The row at a place in the order.
@@ -76,31 +72,23 @@ impl<R: Row> Table<R> {
     pub fn has_room(&self, key: R::Key) -> bool
         ensures { result ≡ fits R.Key.Ordered.order R.Row.key_of key (tab_of self.now) }
     {
-        match self.find(key) {
-            Ok(_) => true,
-            Err(_) => self.rows.len() < self.most,
-        }
+        self.find(key).is_ok() || self.rows.len() < self.most
     }
 
-    // Puts the row in the place of that of its key, or at its place. Answers whether there was room.
+    // Puts the row in the place of that of its key, or at its place. Answers whether there was room, as a set's `insert`
+    // answers by `bool`: a refusal has one reason.
     pub fn put(&mut self, row: R) -> bool
         ensures answer { result ≡ fits R.Key.Ordered.order R.Row.key_of (R.Row.key_of row) (tab_of self.old) }
         ensures table { tab_of self.new ≡ put_in R.Key.Ordered.order R.Row.key_of row (tab_of self.old) }
     {
         match self.find(row.key()) {
-            Ok(i) => {
-                self.rows[i] = row;
-                true
+            Ok(i) => self.rows[i] = row,
+            Err(i) if self.rows.len() < self.most => {
+                let _ = self.rows.insert(i, row);
             }
-            Err(i) => {
-                if self.rows.len() < self.most {
-                    let _ = self.rows.insert(i, row);
-                    true
-                } else {
-                    false
-                }
-            }
+            Err(_) => return false,
         }
+        true
     }
 
     // Takes the row of a key out.
@@ -108,13 +96,7 @@ impl<R: Row> Table<R> {
         ensures answer { result ≡ lookup R.Key.Ordered.order R.Row.key_of key (tab_of self.old).rows }
         ensures table { tab_of self.new ≡ take_out R.Key.Ordered.order R.Row.key_of key (tab_of self.old) }
     {
-        match self.find(key) {
-            Ok(i) => {
-                let row = row_at(self.rows.as_slice(), i);
-                let _ = self.rows.remove(i);
-                row
-            }
-            Err(_) => None,
-        }
+        let i = self.find(key).ok()?;
+        Some(self.rows.remove(i))
     }
 }

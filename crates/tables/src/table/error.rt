@@ -1,10 +1,15 @@
 // Why a table is not made.
 ghost use Rattle.std.specs.Prelude.{◌≡◌};
+ghost use Rattle.tables.specs.declared.table.error.TableError.TheVariants.{Memory};
 ghost use Rattle.tables.specs.Errors.{number_of};
 
-// A number of rows out of bounds, or want of memory.
-#[derive(Clone, Copy)]
+use std::alloc::AllocError;
+use std::error::Error;
+use std::fmt;
+
+#[derive(Clone, Copy, Debug, PartialEq, Eq)]
 pub enum TableError {
+    // A number of rows out of bounds.
     Rows,
     Memory,
 }
@@ -18,5 +23,24 @@ impl TableError {
             TableError::Rows => Some(2),
             TableError::Memory => None,
         }
+    }
+}
+
+impl fmt::Display for TableError {
+    fn fmt<W: fmt::Write>(&self, f: &mut fmt::Formatter<W>) -> fmt::Result {
+        match self {
+            TableError::Rows => write!(f, "a number of rows out of bounds"),
+            TableError::Memory => write!(f, "out of memory"),
+        }
+    }
+}
+
+impl Error for TableError {}
+
+impl From<AllocError> for TableError {
+    ghost from_gives = { λ _ e. e ≡ Memory };
+
+    fn from(_e: AllocError) -> TableError {
+        TableError::Memory
     }
 }

@@ -9,19 +9,6 @@ use crate::row::{Only, Row};
 use crate::table::Table;
 use kinds::Ordered;
 
-// Makes a list of keys the items, within the capacity.
-fn refill<K: Copy>(rows: &mut Vec<Only<K>>, list: &[K])
-    requires { length list.now ≤ vec_capacity rows.old }
-    ensures items { rows.new.items ≡ only_rows list.now }
-    ensures len { vec_len rows.new ≡ length list.now }
-    ensures capacity { vec_capacity rows.new ≡ vec_capacity rows.old }
-{
-    rows.clear();
-    for key in list {
-        rows.push_reserved(Only { key: *key });
-    }
-}
-
 impl<R: Row> Table<R> {
     // Drops every row.
     pub fn clear(&mut self)
@@ -62,7 +49,10 @@ impl<K: Ordered> Table<Only<K>> {
         if self.most < list.len() {
             return false;
         }
-        refill(&mut self.rows, list);
+        self.rows.clear();
+        for key in list {
+            self.rows.push_reserved(Only { key: *key });
+        }
         true
     }
 }

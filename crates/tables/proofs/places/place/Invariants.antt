@@ -1,6 +1,6 @@
 use Rattle.std.proofs.Common.{◌≡◌, ◌-◌, ◌≤◌, length}
 use Rattle.tables.specs.Rows.{between, place_of}
-use Rattle.tables.proofs.places.halve.Given as goal
+use Rattle.tables.proofs.places.place.Given as goal
 
 abbrev pub invariant-loop-low : goal.invariant-loop-low
 invariant-loop-low g l =
