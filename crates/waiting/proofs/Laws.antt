@@ -1,6 +1,6 @@
 -- What a caller may know of the rows of a key.
 use Rattle.std.proofs.Common.{◌≡◌, ℕ, zero, suc, ◌+◌, ◌-◌, ◌<◌, Bool, true, false, cond, ◌||◌, ◌⊎◌, List, [], ◌∷◌, length, get_or, take, drop, Some, filter, Ordering, Less, Equal, Greater, sym, refl, ap, ◌∙◌, subst, inl, inr, ⊎_elim, arith}
-use Rattle.std.specs.Ordering.{is_eq}
+use Rattle.std.specs.Ordering.{is_eq, is_lt, is_le}
 use Rattle.std.specs.List.{AllByRecursion as All}
 use Rattle.kinds.specs.Order.{and_then}
 use Rattle.kinds.specs.declared.ordered.Ordered.{Ghosts as Order}
@@ -12,7 +12,7 @@ use Rattle.tables.proofs.Laws.{lookup_key}
 use Rattle.tables.proofs.Lawfuls.{pair_lawful}
 use Rattle.waiting.specs.declared.rows.WaitRow.{WaitRow}
 use Rattle.waiting.specs.Waits.{pair_of, is_of, wait_row}
-use Rattle.waiting.specs.Groups.{side, turn, test, bound_of, rows_of, any_waits, waited}
+use Rattle.waiting.specs.Groups.{turn, bound_of, below, up_to, rows_of, any_waits, waited}
 use Rattle.waiting.proofs.Splits.{Steady, lead, place_splits, split_lead}
 
 never : {G : Type 0} → true ≡ false → G
@@ -26,6 +26,28 @@ first_at_most : (x y : Ordering) → and_then x y ≡ Less → AtMost x
 first_at_most Less y h = inl refl
 first_at_most Equal y h = inr refl
 first_at_most Greater y h = let z : ◌≡◌ {A = ℕ} 0 1 = cc in absurd (omega arith)
+
+-- a row of a smaller key comes before the bound, and with `past` also one of the key
+abbrev side : Bool → Ordering → Bool
+side past Less = true
+side past Equal = past
+side past Greater = false
+
+side_less : (x : Ordering) → is_lt x ≡ side false x
+side_less Less = refl
+side_less Equal = refl
+side_less Greater = refl
+
+side_at_most : (x : Ordering) → is_le x ≡ side true x
+side_at_most Less = refl
+side_at_most Equal = refl
+side_at_most Greater = refl
+
+abbrev before : {K S : Type 0} → Order K → K → Bool → WaitRow K S → Bool
+before k key past r = side past (k.order r.pair.first key)
+
+abbrev test : {K S : Type 0} → Order K → K → Bool → WaitRow K S → Ordering
+test k key past r = turn (before k key past r)
 
 module _ {K S : Type 0} (k : Order K) (o : Lawful k.order) (s : Order S) (os : Lawful s.order) where
   -- what comes before the bound takes with it all that comes before
@@ -82,9 +104,15 @@ module _ {K S : Type 0} (k : Order K) (o : Lawful k.order) (s : Order S) (os : L
       split : (a b : ℕ) → a < b + 1 → (a < b) ⊎ (b ≡ a)
       split a b l = ⊎_elim (λ e. inr (sym e)) (λ ne. inl (omega arith)) (cases_eq a b)
 
-  pub bound_lead : (key : K) (past : Bool) (rows : List (WaitRow K S)) → Ascending (by_pair k s) pair_of rows → bound_of k key past rows ≡ lead (test k key past) rows
+  bound_lead : (key : K) (past : Bool) (rows : List (WaitRow K S)) → Ascending (by_pair k s) pair_of rows → bound_of (before k key past) rows ≡ lead (test k key past) rows
   unfolding bound_of
   bound_lead key past rows up = split_lead (test k key past) rows _ (place_splits (test k key past) rows (steady key past rows up))
+
+  pub below_lead : (key : K) (rows : List (WaitRow K S)) → Ascending (by_pair k s) pair_of rows → bound_of (below k key) rows ≡ lead (test k key false) rows
+  below_lead key rows up = ap (λ h. bound_of h rows) (λ i r. side_less (k.order r.pair.first key) i) ∙ bound_lead key false rows up
+
+  pub up_to_lead : (key : K) (rows : List (WaitRow K S)) → Ascending (by_pair k s) pair_of rows → bound_of (up_to k key) rows ≡ lead (test k key true) rows
+  up_to_lead key rows up = ap (λ h. bound_of h rows) (λ i r. side_at_most (k.order r.pair.first key) i) ∙ bound_lead key true rows up
 
   -- ---- the rows of a key are those that have it
   abbrev Up : List (WaitRow K S) → Type 0
@@ -133,8 +161,8 @@ module _ {K S : Type 0} (k : Order K) (o : Lawful k.order) (s : Order S) (os : L
 
   pub rows_of_is : (key : K) (rows : List (WaitRow K S)) → Ascending (by_pair k s) pair_of rows → rows_of k key rows ≡ filter (is_of k key) rows
   rows_of_is key rows up =
-      ap (λ n. take (n - bound_of k key false rows) (drop (bound_of k key false rows) rows)) (bound_lead key true rows up)
-      ∙ (ap (λ n. take (lead (test k key true) rows - n) (drop n rows)) (bound_lead key false rows up)
+      ap (λ n. take (n - bound_of (below k key) rows) (drop (bound_of (below k key) rows) rows)) (up_to_lead key rows up)
+      ∙ (ap (λ n. take (lead (test k key true) rows - n) (drop n rows)) (below_lead key rows up)
       ∙ group key rows (walk.to_up (by_pair k s) (pair_lawful k s o os) pair_of rows up))
 
   -- ---- who waits, by look-ups
@@ -144,7 +172,6 @@ module _ {K S : Type 0} (k : Order K) (o : Lawful k.order) (s : Order S) (os : L
   is_equal Greater h = never (sym h)
 
   some_in : (key : K) (rows : List (WaitRow K S)) → any_waits (filter (is_of k key) rows) ≡ true → (r : WaitRow K S) × In r rows × (r.pair.first ≡ key) × (r.waits ≡ true)
-  unfolding any_waits
   some_in key [] h = never (sym h)
   some_in key (r ∷ rs) h =
       by_bool (is_of k key r)
@@ -155,7 +182,6 @@ module _ {K S : Type 0} (k : Order K) (o : Lawful k.order) (s : Order S) (os : L
       (λ e. let t = some_in key rs (sym (ap (λ b. any_waits (cond b (r ∷ filter (is_of k key) rs) (filter (is_of k key) rs))) e) ∙ h) in (t.0, inr t.1, t.2, t.3))
 
   none_in : (key : K) (rows : List (WaitRow K S)) → any_waits (filter (is_of k key) rows) ≡ false → (r : WaitRow K S) → In r rows → r.pair.first ≡ key → r.waits ≡ false
-  unfolding any_waits
   none_in key [] h r i e = absurd i
   none_in key (q ∷ qs) h r i e =
       by_bool (is_of k key q)

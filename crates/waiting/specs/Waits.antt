@@ -1,13 +1,11 @@
 -- Waiting pairs, and what each pass makes of them.
-use Rattle.std.specs.Prelude.{Bool, true, false, cond, List, [], ◌∷◌, Some, None, Option}
+use Rattle.std.specs.Prelude.{Bool, true, false, cond, List, fold, Some, None, Option}
 use Rattle.std.specs.Ordering.{is_eq}
 use Rattle.kinds.specs.declared.ordered.Ordered.{Ghosts as Order}
 use Rattle.kinds.specs.declared.pair.Pair.{Pair}
 use Rattle.tables.specs.Rows.{pair, by_pair, lookup}
 use Rattle.tables.specs.Tables.{Tab, put_in}
 use Rattle.waiting.specs.declared.rows.WaitRow.{WaitRow}
-use Rattle.waiting.specs.declared.rows.Change.{Change}
-use Rattle.waiting.specs.declared.rows.Change.TheVariants.{Begin, End, Undo, Retire}
 
 abbrev pub pair_of : {K S : Type 0} → WaitRow K S → Pair K S
 pair_of r = r.pair
@@ -15,12 +13,19 @@ pair_of r = r.pair
 abbrev pub flagged : {K S : Type 0} → WaitRow K S → Bool → Bool → WaitRow K S
 flagged r waits delivered = record { pair = r.pair; waits = waits; delivered = delivered }
 
--- all that wait are delivered to; the delivered ones go; the delivered marks go, and with them those that left; all go
-abbrev pub changed : {K S : Type 0} → Change → WaitRow K S → Option (WaitRow K S)
-changed Begin r = Some (flagged r r.waits r.waits)
-changed End r = cond r.delivered None (Some r)
-changed Undo r = cond r.waits (Some (flagged r true false)) None
-changed Retire r = None
+-- what becomes of a row of a key: where a delivery begins, all that wait are delivered to; where it ends, the delivered
+-- ones go; where it is undone, the delivered marks go, and with them those that left; where the key retires, all go
+abbrev pub begun : {K S : Type 0} → WaitRow K S → Option (WaitRow K S)
+begun r = Some (flagged r r.waits r.waits)
+
+abbrev pub ended : {K S : Type 0} → WaitRow K S → Option (WaitRow K S)
+ended r = cond r.delivered None (Some r)
+
+abbrev pub undone : {K S : Type 0} → WaitRow K S → Option (WaitRow K S)
+undone r = cond r.waits (Some (flagged r true false)) None
+
+abbrev pub retired : {K S : Type 0} → WaitRow K S → Option (WaitRow K S)
+retired r = None
 
 abbrev pub is_of : {K S : Type 0} → Order K → K → WaitRow K S → Bool
 is_of k key r = is_eq (k.order r.pair.first key)
@@ -53,5 +58,4 @@ abbrev pub wait_one : {K S : Type 0} → Order K → Order S → K → S → Tab
 wait_one k s key w t = put_in (by_pair k s) pair_of (came key w (wait_row k s key w t.rows)) t
 
 unfoldable pub wait_all : {K S : Type 0} → Order K → Order S → K → Tab (WaitRow K S) → List S → Tab (WaitRow K S)
-wait_all k s key t [] = t
-wait_all k s key t (w ∷ ws) = wait_all k s key (wait_one k s key w t) ws
+wait_all k s key t ws = fold (λ u w. wait_one k s key w u) t ws

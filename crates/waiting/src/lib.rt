@@ -6,7 +6,7 @@ mod rows;
 mod rules;
 mod tracker;
 
-pub use pairs::{Paired, count_new};
+pub use pairs::count_new;
 pub use rows::WaitRow;
 pub use rules::{PerformanceOver, Rule, SubscriberGone};
 pub use tracker::{MOST_PAIRS, Subscribers};

@@ -3,9 +3,9 @@ ghost use Rattle.std.specs.Prelude.{◌≡◌, Bool as Flag, not, ◌==◌};
 ghost use Rattle.std.specs.Ordering.{is_eq};
 
 use kinds::{Ordered, Seat};
-use std::cmp::Ordering;
 
-// One fixed answer for each key and subscriber: whether the pair is kept.
+// One fixed answer for each key and subscriber: whether the pair is kept. A trait and no closure: a rule has a name, and
+// `keeps` says that its answers never change.
 pub trait Rule<K, S> {
     ghost keeps: { Self → K → S → Flag };
 
@@ -23,7 +23,7 @@ impl<K: Copy, S: Ordered> Rule<K, S> for SubscriberGone<S> {
     ghost keeps = { λ r _ s. not (is_eq (S.Ordered.order s r.subscriber)) };
 
     fn keep(&self, _key: K, subscriber: S) -> bool {
-        !matches!(subscriber.compare(&self.subscriber), Ordering::Equal)
+        subscriber != self.subscriber
     }
 }
 
