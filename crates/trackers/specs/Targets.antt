@@ -1,5 +1,5 @@
 -- Target pairs.
-use Rattle.std.specs.Prelude.{cond, List, [], ◌∷◌, Some, None, Option}
+use Rattle.std.specs.Prelude.{cond, List, fold, Some, None, Option}
 use Rattle.std.specs.Ordering.{is_eq}
 use Rattle.kinds.specs.declared.ordered.Ordered.{Ghosts as Order}
 use Rattle.kinds.specs.declared.pair.Pair.{Pair}
@@ -15,8 +15,7 @@ abbrev pub add_one : {K P : Type 0} → Order K → Order P → K → P → Tab 
 add_one k p key peer t = put_in (by_pair k p) key_in (only (pair key peer)) t
 
 unfoldable pub add_all : {K P : Type 0} → Order K → Order P → K → Tab (Only (Pair K P)) → List P → Tab (Only (Pair K P))
-add_all k p key t [] = t
-add_all k p key t (x ∷ xs) = add_all k p key (add_one k p key x t) xs
+add_all k p key t xs = fold (λ u x. add_one k p key x u) t xs
 
 -- the pairs of one key go
 abbrev pub off_key : {K P : Type 0} → Order K → K → Only (Pair K P) → Option (Only (Pair K P))

@@ -4,58 +4,9 @@ ghost use Rattle.tables.specs.Tables.{tab_of, sweep_by};
 ghost use Rattle.trackers.specs.Lives.{live_key, live_wait, live_target};
 
 use crate::targets::Targets;
-use kinds::{Ordered, Pair};
-use live::{KeyRow, LiveKeys};
-use tables::{Only, RowRule};
-use waiting::{Subscribers, WaitRow};
-
-// The live keys that somebody waits for.
-#[derive(Drop)]
-pub struct Waited<'a, K: Ordered, S: Ordered> {
-    pub waiting: &'a Subscribers<K, S>,
-}
-
-impl<'a, K: Ordered, S: Ordered, P: Ordered> RowRule<KeyRow<K, P>> for Waited<'a, K, S> {
-    ghost ruled = { λ s r. live_key K.Ordered.own (tab_of s.waiting.now.table).rows r };
-
-    fn apply(&self, row: &KeyRow<K, P>) -> Option<KeyRow<K, P>> {
-        if self.waiting.contains(row.key) {
-            Some(*row)
-        } else {
-            None
-        }
-    }
-}
-
-// The pairs of keys that are live.
-#[derive(Drop)]
-pub struct OfLive<'a, K: Ordered, P: Ordered> {
-    pub keys: &'a LiveKeys<K, P>,
-}
-
-impl<'a, K: Ordered, P: Ordered, S: Ordered> RowRule<WaitRow<K, S>> for OfLive<'a, K, P> {
-    ghost ruled = { λ s r. live_wait K.Ordered.own (tab_of s.keys.now.table).rows r };
-
-    fn apply(&self, row: &WaitRow<K, S>) -> Option<WaitRow<K, S>> {
-        if self.keys.get(row.pair.first).is_some() {
-            Some(*row)
-        } else {
-            None
-        }
-    }
-}
-
-impl<'a, K: Ordered, P: Ordered> RowRule<Only<Pair<K, P>>> for OfLive<'a, K, P> {
-    ghost ruled = { λ s r. live_target K.Ordered.own (tab_of s.keys.now.table).rows r };
-
-    fn apply(&self, row: &Only<Pair<K, P>>) -> Option<Only<Pair<K, P>>> {
-        if self.keys.get(row.key.first).is_some() {
-            Some(*row)
-        } else {
-            None
-        }
-    }
-}
+use kinds::Ordered;
+use live::LiveKeys;
+use waiting::Subscribers;
 
 // Retires each live key that nobody waits for.
 pub fn retain_waited<K: Ordered, S: Ordered, P: Ordered>(
@@ -65,7 +16,8 @@ pub fn retain_waited<K: Ordered, S: Ordered, P: Ordered>(
     ensures table { tab_of keys.new.table ≡ sweep_by (live_key K.Ordered.own (tab_of waiting.now.table).rows) (tab_of keys.old.table) }
     ensures queue { tab_of keys.new.queue ≡ tab_of keys.old.queue }
 {
-    keys.table.sweep(&Waited { waiting });
+    keys.table
+        .sweep(|row| waiting.contains(row.key).then_some(*row));
 }
 
 // Keeps the waiting pairs of live keys.
@@ -75,7 +27,9 @@ pub fn retain_live<K: Ordered, S: Ordered, P: Ordered>(
 )
     ensures { tab_of waiting.new.table ≡ sweep_by (live_wait K.Ordered.own (tab_of keys.now.table).rows) (tab_of waiting.old.table) }
 {
-    waiting.table.sweep(&OfLive { keys });
+    waiting
+        .table
+        .sweep(|row| keys.get(row.pair.first).is_some().then_some(*row));
 }
 
 impl<K: Ordered, P: Ordered> Targets<K, P> {
@@ -83,6 +37,7 @@ impl<K: Ordered, P: Ordered> Targets<K, P> {
     pub fn retain_live(&mut self, keys: &LiveKeys<K, P>)
         ensures { tab_of self.new.table ≡ sweep_by (live_target K.Ordered.own (tab_of keys.now.table).rows) (tab_of self.old.table) }
     {
-        self.table.sweep(&OfLive { keys });
+        self.table
+            .sweep(|row| keys.get(row.key.first).is_some().then_some(*row));
     }
 }

@@ -9,14 +9,13 @@ ghost use Rattle.std.proofs.Common.{rules};
 
 use kinds::Ordered;
 use std::alloc::Global;
-use std::cmp::Ordering;
 use tables::{Row, Table, TableError};
 
 // Slips at most.
 pub const MOST_SLIPS: usize = 2_048;
 
 // Slips go by their number.
-#[derive(Clone, Copy)]
+#[derive(Clone, Copy, PartialEq, Eq, PartialOrd, Ord)]
 pub struct SlipNumber {
     pub number: u32,
 }
@@ -24,17 +23,11 @@ pub struct SlipNumber {
 impl Ordered for SlipNumber {
     ghost order = { λ x y. by_number x.number y.number };
 
+    ghost compares = { Prim.search rules };
+
+    ghost equals = { Prim.search rules };
+
     ghost same = { Prim.search rules };
-
-    ghost reflexive = { Prim.search rules };
-
-    ghost turned = { Prim.search rules };
-
-    ghost joined = { Prim.search rules };
-
-    fn compare(&self, other: &Self) -> Ordering {
-        self.number.cmp(&other.number)
-    }
 }
 
 // A delivery under judgement: its key, whose response it is, how long that took, its length, the caller's number for
@@ -76,17 +69,16 @@ fn number_after(number: u32, most: usize) -> u32
 }
 
 // The first number from one on that is not outstanding, in so many steps.
+#[tactic(auto, using(crate::proofs::Steps::free_here, crate::proofs::Steps::free_next, crate::proofs::Steps::free_end))]
 fn free_from<K: Copy, P: Copy>(slips: &Table<SlipRow<K, P>>, most: usize, start: u32) -> Option<u32>
     ensures { result ≡ free_from most (tab_of slips.now).rows most start }
 {
     let mut number = start;
-    let mut steps = most;
-    while steps > 0 {
+    for _ in 0..most {
         if slips.get(SlipNumber { number }).is_none() {
             return Some(number);
         }
         number = number_after(number, most);
-        steps -= 1;
     }
     None
 }
@@ -105,10 +97,8 @@ impl<K: Copy, P: Copy> Slips<K, P> {
         ensures { result ≡ next_slip (slips_of self.now) }
     {
         let most = self.table.most();
-        match self.last {
-            Some(last) => free_from(&self.table, most, number_after(last, most)),
-            None => free_from(&self.table, most, 0),
-        }
+        let start = self.last.map_or(0, |last| number_after(last, most));
+        free_from(&self.table, most, start)
     }
 
     // The row of a slip that is outstanding.
@@ -126,12 +116,7 @@ impl<K: Copy, P: Copy> Slips<K, P> {
         let number = self.next()?;
         let _ = self.table.put(SlipRow {
             slip: SlipNumber { number },
-            key: row.key,
-            peer: row.peer,
-            elapsed: row.elapsed,
-            size: row.size,
-            bytes: row.bytes,
-            accepted: row.accepted,
+            ..row
         });
         self.last = Some(number);
         Some(number)

@@ -7,58 +7,12 @@ ghost use Rattle.trackers.specs.Made.{MadeTargets};
 
 use kinds::{Ordered, Pair};
 use std::alloc::Global;
-use std::cmp::Ordering;
-use tables::{Only, RowRule, Table, TableError};
-use waiting::{MOST_PAIRS, Paired, count_new};
+use tables::{Only, Table, TableError};
+use waiting::{MOST_PAIRS, count_new};
 
 #[derive(Drop)]
 pub struct Targets<K: Ordered, P: Ordered> {
     pub table: Table<Only<Pair<K, P>>>,
-}
-
-// All pairs but those of one key.
-#[derive(Clone, Copy)]
-pub struct OffKey<K> {
-    pub key: K,
-}
-
-impl<K: Ordered, P: Ordered> RowRule<Only<Pair<K, P>>> for OffKey<K> {
-    ghost ruled = { λ s r. off_key K.Ordered.own s.key r };
-
-    fn apply(&self, row: &Only<Pair<K, P>>) -> Option<Only<Pair<K, P>>> {
-        if matches!(row.key.first.compare(&self.key), Ordering::Equal) {
-            None
-        } else {
-            Some(*row)
-        }
-    }
-}
-
-// Adds all of a list to the targets of a key.
-fn aim_at_all<K: Ordered, P: Ordered>(targets: &mut Table<Only<Pair<K, P>>>, key: K, peers: &[P])
-    ensures { tab_of targets.new ≡ add_all K.Ordered.own P.Ordered.own key (tab_of targets.old) peers.now }
-{
-    for peer in peers {
-        let _ = targets.put(Only {
-            key: Pair {
-                first: key,
-                second: *peer,
-            },
-        });
-    }
-}
-
-impl<K: Ordered, P: Ordered> Paired<K, P> for Targets<K, P> {
-    ghost has = { λ t key x. is_some (target_row K.Ordered.own P.Ordered.own key x (tab_of t.table).rows) };
-
-    fn has_pair(&self, key: K, x: P) -> bool {
-        self.table
-            .get(Pair {
-                first: key,
-                second: x,
-            })
-            .is_some()
-    }
 }
 
 impl<K: Ordered, P: Ordered> Targets<K, P> {
@@ -74,27 +28,48 @@ impl<K: Ordered, P: Ordered> Targets<K, P> {
     pub fn count_new(&self, key: K, peers: &[P]) -> usize
         ensures { result ≡ new_of P.Ordered.order (λ x. is_some (target_row K.Ordered.own P.Ordered.own key x (tab_of self.now.table).rows)) peers.now }
     {
-        count_new(self, key, peers)
+        count_new(peers, |peer| self.contains(key, peer))
+    }
+
+    // Adds a peer to the targets of a key.
+    fn aim_at(&mut self, key: K, peer: P)
+        ensures { tab_of self.new.table ≡ add_one K.Ordered.own P.Ordered.own key peer (tab_of self.old.table) }
+    {
+        let _ = self.table.put(Only {
+            key: Pair {
+                first: key,
+                second: peer,
+            },
+        });
     }
 
     // Adds peers to the targets of a key, repeats once.
+    #[tactic(auto, using(std::proofs::lemmas::List::Sums::fold_more, std::proofs::lemmas::List::take_all), unfolding(crate::specs::Targets::add_all))]
     pub fn add(&mut self, key: K, peers: &[P])
         ensures { tab_of self.new.table ≡ add_all K.Ordered.own P.Ordered.own key (tab_of self.old.table) peers.now }
     {
-        aim_at_all(&mut self.table, key, peers);
+        for peer in peers {
+            self.aim_at(key, *peer);
+        }
     }
 
     // Takes all targets of a key off.
     pub fn clear(&mut self, key: K)
         ensures { tab_of self.new.table ≡ sweep_by (off_key K.Ordered.own key) (tab_of self.old.table) }
     {
-        self.table.sweep(&OffKey { key });
+        self.table
+            .sweep(|row| (row.key.first != key).then_some(*row));
     }
 
     // Whether a peer is a target of a key.
     pub fn contains(&self, key: K, peer: P) -> bool
         ensures { result ≡ is_some (target_row K.Ordered.own P.Ordered.own key peer (tab_of self.now.table).rows) }
     {
-        self.has_pair(key, peer)
+        self.table
+            .get(Pair {
+                first: key,
+                second: peer,
+            })
+            .is_some()
     }
 }
