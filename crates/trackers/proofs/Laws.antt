@@ -1,21 +1,13 @@
 -- What a caller may know of the numbers of slips.
-use Rattle.std.proofs.Common.{◌≡◌, ℕ, zero, suc, ◌<◌, Bool, true, false, cond, ltb, List, is_some, Some, None, Option, sym, refl, ap, ◌∙◌, subst, arith, ltb-true}
+use Rattle.std.proofs.Common.{◌≡◌, ℕ, zero, suc, ◌<◌, Bool, true, false, cond, ltb, List, is_some, Some, None, Option, refl, subst, ⊎_elim, ltb-true}
+use Rattle.std.proofs.lemmas.Bool.{cases_Bool}
+use Rattle.std.proofs.lemmas.Option.{none-some, same_Some}
 use Rattle.trackers.specs.declared.slips.SlipRow.{SlipRow}
 use Rattle.trackers.specs.Slips.{Slipped, slip_row, wrapped, number_after, number_first, free_from, next_slip}
 
-by_bool : {G : Type 0} (b : Bool) → (b ≡ true → G) → (b ≡ false → G) → G
-by_bool true f g = f refl
-by_bool false f g = g refl
-
 is_none : {A : Type 0} (x : Option A) → is_some x ≡ false → x ≡ None
 is_none None h = refl
-is_none (Some a) h = let z : ◌≡◌ {A = ℕ} 0 1 = cc in absurd (omega arith)
-
-same_some : (m n : ℕ) → ◌≡◌ {A = Option ℕ} (Some m) (Some n) → m ≡ n
-same_some m n e = cc
-
-no_some : (n : ℕ) → ◌≡◌ {A = Option ℕ} None (Some n) → ⊥
-no_some n e = let z : ◌≡◌ {A = ℕ} 0 1 = cc in omega arith
+is_none (Some a) h = cc
 
 after_below : (b : Bool) (most n : ℕ) → ltb n most ≡ b → 0 < most → cond b n 0 < most
 after_below true most n e l = ltb-true n most e
@@ -25,24 +17,22 @@ module _ {K P : Type 0} (most : ℕ) (rows : List (SlipRow K P)) where
   -- a number that is given was not outstanding
   free_free : (steps n m : ℕ) → free_from most rows steps n ≡ Some m → slip_row m rows ≡ None
   unfolding free_from
-  free_free zero n m e = absurd (no_some m e)
+  free_free zero n m e = absurd (none-some m e)
   free_free (suc steps) n m e =
-      by_bool (is_some (slip_row n rows))
-      (λ b. free_free steps (number_after most n) m (sym (ap (λ x. cond x (free_from most rows steps (number_after most n)) (Some n)) b) ∙ e))
-      (λ b.
-      let is : n ≡ m = same_some n m (sym (ap (λ x. cond x (free_from most rows steps (number_after most n)) (Some n)) b) ∙ e) in
-      subst (λ x. slip_row x rows ≡ None) is (is_none (slip_row n rows) b))
+      ⊎_elim
+      (λ b. free_free steps (number_after most n) m (rw b at e))
+      (λ b. subst (λ x. slip_row x rows ≡ None) (same_Some n m (rw b at e)) (is_none (slip_row n rows) b))
+      (cases_Bool (is_some (slip_row n rows)))
 
   -- and is below the number of rows
   free_below : (steps n m : ℕ) → 0 < most → n < most → free_from most rows steps n ≡ Some m → m < most
   unfolding free_from
-  free_below zero n m l h e = absurd (no_some m e)
+  free_below zero n m l h e = absurd (none-some m e)
   free_below (suc steps) n m l h e =
-      by_bool (is_some (slip_row n rows))
-      (λ b. free_below steps (number_after most n) m l (after_below (ltb (wrapped n) most) most (wrapped n) refl l) (sym (ap (λ x. cond x (free_from most rows steps (number_after most n)) (Some n)) b) ∙ e))
-      (λ b.
-      let is : n ≡ m = same_some n m (sym (ap (λ x. cond x (free_from most rows steps (number_after most n)) (Some n)) b) ∙ e) in
-      subst (λ x. x < most) is h)
+      ⊎_elim
+      (λ b. free_below steps (number_after most n) m l (after_below (ltb (wrapped n) most) most (wrapped n) refl l) (rw b at e))
+      (λ b. subst (λ x. x < most) (same_Some n m (rw b at e)) h)
+      (cases_Bool (is_some (slip_row n rows)))
 
 first_below : (most : ℕ) (last : Option ℕ) → 0 < most → number_first most last < most
 first_below most None l = l

@@ -16,8 +16,11 @@ pub fn retain_waited<K: Ordered, S: Ordered, P: Ordered>(
     ensures table { tab_of keys.new.table ≡ sweep_by (live_key K.Ordered.own (tab_of waiting.now.table).rows) (tab_of keys.old.table) }
     ensures queue { tab_of keys.new.queue ≡ tab_of keys.old.queue }
 {
-    keys.table
-        .sweep(|row| waiting.contains(row.key).then_some(*row));
+    keys.table.sweep(
+        |row|
+            ensures { result ≡ live_key K.Ordered.own (tab_of waiting.entry.now.table).rows row.now }
+        { waiting.contains(row.key).then_some(*row) },
+    );
 }
 
 // Keeps the waiting pairs of live keys.
@@ -27,9 +30,11 @@ pub fn retain_live<K: Ordered, S: Ordered, P: Ordered>(
 )
     ensures { tab_of waiting.new.table ≡ sweep_by (live_wait K.Ordered.own (tab_of keys.now.table).rows) (tab_of waiting.old.table) }
 {
-    waiting
-        .table
-        .sweep(|row| keys.get(row.pair.first).is_some().then_some(*row));
+    waiting.table.sweep(
+        |row|
+            ensures { result ≡ live_wait K.Ordered.own (tab_of keys.entry.now.table).rows row.now }
+        { keys.get(row.pair.first).is_some().then_some(*row) },
+    );
 }
 
 impl<K: Ordered, P: Ordered> Targets<K, P> {
@@ -37,7 +42,10 @@ impl<K: Ordered, P: Ordered> Targets<K, P> {
     pub fn retain_live(&mut self, keys: &LiveKeys<K, P>)
         ensures { tab_of self.new.table ≡ sweep_by (live_target K.Ordered.own (tab_of keys.now.table).rows) (tab_of self.old.table) }
     {
-        self.table
-            .sweep(|row| keys.get(row.key.first).is_some().then_some(*row));
+        self.table.sweep(
+            |row|
+                ensures { result ≡ live_target K.Ordered.own (tab_of keys.entry.now.table).rows row.now }
+            { keys.get(row.key.first).is_some().then_some(*row) },
+        );
     }
 }

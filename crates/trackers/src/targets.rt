@@ -57,8 +57,11 @@ impl<K: Ordered, P: Ordered> Targets<K, P> {
     pub fn clear(&mut self, key: K)
         ensures { tab_of self.new.table ≡ sweep_by (off_key K.Ordered.own key) (tab_of self.old.table) }
     {
-        self.table
-            .sweep(|row| (row.key.first != key).then_some(*row));
+        self.table.sweep(
+            |row|
+                ensures { result ≡ off_key K.Ordered.own key row.now }
+            { (row.key.first != key).then_some(*row) },
+        );
     }
 
     // Whether a peer is a target of a key.

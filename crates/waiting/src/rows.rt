@@ -1,6 +1,6 @@
 // A key with a subscriber that waits for it or belongs to its running delivery.
 ghost use Rattle.std.specs.Prelude.{◌≡◌, ◌≤◌, length, Bool as Flag};
-ghost use Rattle.waiting.specs.Groups.{bound_of, rows_of, any_waits, nth_delivered};
+ghost use Rattle.waiting.specs.Groups.{bound_of, below, up_to, rows_of, any_waits, nth_delivered};
 
 use kinds::{Ordered, Pair};
 use tables::Row;
@@ -49,8 +49,18 @@ fn bound<R, F: Fn(&R) -> bool>(rows: &[R], comes_before: F) -> usize
 pub fn rows_of<K: Ordered, S: Ordered>(rows: &[WaitRow<K, S>], key: K) -> &[WaitRow<K, S>]
     ensures { result.now ≡ rows_of K.Ordered.own key rows.now }
 {
-    let start = bound(rows, |row| row.pair.first < key);
-    let end = bound(rows, |row| row.pair.first <= key);
+    let start = bound(
+        rows,
+        |row|
+            ensures { result ≡ below K.Ordered.own key row.now }
+        { row.pair.first < key },
+    );
+    let end = bound(
+        rows,
+        |row|
+            ensures { result ≡ up_to K.Ordered.own key row.now }
+        { row.pair.first <= key },
+    );
     &rows[start..end.max(start)]
 }
 

@@ -98,11 +98,18 @@ impl<K: Ordered, S: Ordered> Subscribers<K, S> {
         requires { F.IsAlwaysCallable change }
         ensures { (f : _ → Maybe _) → ((r : _) (o : Maybe _) → F.post change r o → o ≡ f r) → tab_of self.new.table ≡ sweep_by (only K.Ordered.own key f) (tab_of self.old.table) }
     {
-        self.table.sweep(|row| if row.pair.first == key {
-            change(*row)
-        } else {
-            Some(*row)
-        });
+        self.table.sweep(
+            |row|
+                requires { F.IsAlwaysCallable change }
+                ensures { (f : _ → Maybe _) → ((r : _) (o : Maybe _) → F.post change r o → o ≡ f r) → result ≡ only K.Ordered.own key f row.now }
+            {
+                if row.pair.first == key {
+                    change(*row)
+                } else {
+                    Some(*row)
+                }
+            },
+        );
     }
 
     // Begins a delivery to all that wait for a key.
@@ -149,16 +156,22 @@ impl<K: Ordered, S: Ordered> Subscribers<K, S> {
     pub fn retain<W: Rule<K, S>>(&mut self, rule: &W)
         ensures { tab_of self.new.table ≡ sweep_by (retains (W.Rule.keeps rule.now)) (tab_of self.old.table) }
     {
-        self.table.sweep(|row| if rule.keep(row.pair.first, row.pair.second) {
-            Some(*row)
-        } else if row.delivered {
-            Some(WaitRow {
-                waits: false,
-                delivered: true,
-                ..*row
-            })
-        } else {
-            None
-        });
+        self.table.sweep(
+            |row|
+                ensures { result ≡ retains (W.Rule.keeps rule.entry.now) row.now }
+            {
+                if rule.keep(row.pair.first, row.pair.second) {
+                    Some(*row)
+                } else if row.delivered {
+                    Some(WaitRow {
+                        waits: false,
+                        delivered: true,
+                        ..*row
+                    })
+                } else {
+                    None
+                }
+            },
+        );
     }
 }

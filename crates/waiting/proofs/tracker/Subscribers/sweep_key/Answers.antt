@@ -1,7 +1,7 @@
 use Rattle.std.proofs.Common.{rules}
-use Rattle.std.proofs.lemmas.Fn.{always_returns_same}
+use Rattle.tables.proofs.Computed.{computed}
 use Rattle.waiting.specs.Waits.{only}
 use Rattle.waiting.proofs.tracker.Subscribers.sweep_key.Goals as goal
 
 pub returns : goal.returns
-returns g c f reads = c.sweep.ensures (only g.K.Ordered c.args.key f) (always_returns_same _ _ _ (λ a r f' k. search (rules, reads)))
+returns g c f reads = computed (only g.K.Ordered c.args.key f) c.sweep.ensures (λ a r f' k. search (rules, reads))
