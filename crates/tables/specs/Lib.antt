@@ -1,4 +1,5 @@
 pub mod Rows
+pub mod Appends
 pub mod Lists
 pub mod Scans
 pub mod Sweeps

@@ -1,6 +1,7 @@
 // A table: rows in memory that is reserved when the table is made.
 ghost use Rattle.std.specs.Prelude.{◌≤◌, vec_len, vec_capacity};
 
+mod append;
 mod edits;
 pub mod error;
 mod passes;
