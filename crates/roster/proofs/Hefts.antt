@@ -1,15 +1,17 @@
 -- What shares weigh together, and at most.
-use Rattle.std.proofs.Common.{◌≡◌, ℕ, zero, suc, ◌*◌, ◌^◌, ◌<◌, ◌≤◌, Bool, true, false, cond, eqb, List, [], ◌∷◌, length, get_or, set, Option, refl, ap, ◌∙◌, suc-mul, arith}
+use Rattle.std.proofs.Common.{◌≡◌, ℕ, zero, suc, ◌*◌, ◌^◌, ◌<◌, ◌≤◌, Bool, true, false, cond, eqb, List, [], ◌∷◌, ◌++◌, ◌+◌, length, get_or, drop, set, Option, sym, refl, ap, ◌∙◌, suc-mul, arith}
+use Rattle.std.proofs.lemmas.List.{map-append}
 use Rattle.kinds.specs.declared.ordered.Ordered.{Ghosts as Order}
 use Rattle.score.specs.Bounds.{most_weight}
 use Rattle.score.specs.declared.rating.Rating.{Ghosts as Rate}
 use Rattle.draw.specs.declared.rows.Share.{Share}
 use Rattle.draw.specs.Rows.{back, all_back, heft}
 use Rattle.tables.specs.declared.row.Only.{Only}
+use Rattle.tables.proofs.Steps.{made_over, made_all}
 use Rattle.roster.specs.declared.row.PeerRow.{PeerRow}
 use Rattle.roster.specs.Bounds.{most_peers}
 use Rattle.roster.specs.Weights.{heaviest, changed_at, reweighed}
-use Rattle.roster.specs.Peers.{is_out, weight_for, share_for, shares_for}
+use Rattle.roster.specs.Peers.{share_for, shares_for}
 
 -- no share weighs more than the heaviest
 heft_most : (m : ℕ) (xs : List Share) → heaviest xs ≤ m → heft xs ≤ length xs * m
@@ -21,49 +23,48 @@ heft_most m (s ∷ ss) h = let r = heft_most m ss (omega arith) in simp suc-mul 
 pub heft_fits : (xs : List Share) → heaviest xs ≤ most_weight → length xs ≤ most_peers → heft xs < 2 ^ 64
 heft_fits xs h l = let r = heft_most most_weight xs h in omega arith
 
-pub light_none : heaviest [] ≤ most_weight
+-- ---- none, and one more
+pub light_none : (xs : List Share) → xs ≡ [] → heaviest xs ≤ most_weight
 unfolding heaviest
-light_none = omega arith
+light_none xs e = rw e (omega arith)
+
+pub back_none : (xs : List Share) → xs ≡ [] → all_back xs ≡ xs
+back_none xs e = rw e refl
+
+light_at : (s : Share) (xs : List Share) → heaviest xs ≤ most_weight → s.weight ≤ most_weight → heaviest (xs ++ s ∷ []) ≤ most_weight
+unfolding heaviest
+light_at s [] h l = omega arith
+light_at s (x ∷ xs) h l = let r = light_at s xs (omega arith) l in omega arith
+
+pub light_more : (s : Share) (xs ys : List Share) → ys ≡ xs ++ s ∷ [] → heaviest xs ≤ most_weight → s.weight ≤ most_weight → heaviest ys ≤ most_weight
+light_more s xs ys e h l = rw e (light_at s xs h l)
+
+pub back_more : (s : Share) (xs ys : List Share) → ys ≡ xs ++ s ∷ [] → all_back xs ≡ xs → back s ≡ s → all_back ys ≡ ys
+back_more s xs ys e h b = rw e (map-append back xs (s ∷ []) ∙ cc)
 
 -- ---- shares of rows
-module _ {P V : Type 0} (p : Order P) (v : Rate V) (most : (x : V) → v.weighs x ≤ most_weight) (own : Option P) (blocked : List (Only P)) where
-  light_one : (b : Bool) (n : ℕ) → n ≤ most_weight → cond b 0 n ≤ most_weight
-  light_one true n h = omega arith
-  light_one false n h = h
-
-  pub light_shares : (rows : List (PeerRow P V)) → heaviest (shares_for p v own blocked rows) ≤ most_weight
-  unfolding heaviest shares_for
-  light_shares [] = omega arith
-  light_shares (r ∷ rs) =
-      let a : weight_for p v own blocked r ≤ most_weight = light_one (is_out p own blocked r.peer) (v.weighs r.rating) (most r.rating) in
-      let b = light_shares rs in
-      omega arith
-
 module _ {P V : Type 0} (p : Order P) (v : Rate V) (own : Option P) (blocked : List (Only P)) where
-  pub back_shares : (rows : List (PeerRow P V)) → all_back (shares_for p v own blocked rows) ≡ shares_for p v own blocked rows
-  unfolding shares_for
-  back_shares [] = refl
-  back_shares (r ∷ rs) = ap (λ t. share_for p v own blocked r ∷ t) (back_shares rs)
-
   pub length_shares : (rows : List (PeerRow P V)) → length (shares_for p v own blocked rows) ≡ length rows
   unfolding shares_for
   length_shares [] = refl
   length_shares (r ∷ rs) = ap suc (length_shares rs)
 
-  pub shares_more : (r : PeerRow P V) (rs : List (PeerRow P V)) → shares_for p v own blocked (r ∷ rs) ≡ share_for p v own blocked r ∷ shares_for p v own blocked rs
+  -- a share made of the next row and put at the end of what is made
+  pub shares_step : (made next : List Share) (s : Share) (rows : List (PeerRow P V)) (i : ℕ) (r : PeerRow P V) → next ≡ made ++ s ∷ [] → s ≡ share_for p v own blocked r → i < length rows → r ≡ get_or rows i r
+      → made ++ shares_for p v own blocked (drop i rows) ≡ shares_for p v own blocked rows → next ++ shares_for p v own blocked (drop (i + 1) rows) ≡ shares_for p v own blocked rows
   unfolding shares_for
-  shares_more r rs = refl
+  shares_step made next s rows i r e f l is h = rw (e, f) (made_over (shares_for p v own blocked) made _ rows i r (share_for p v own blocked r) l is refl h)
 
-  pub shares_none : shares_for p v own blocked [] ≡ []
+  pub shares_done : (made : List Share) (rows : List (PeerRow P V)) (i : ℕ) → length rows ≤ i → made ++ shares_for p v own blocked (drop i rows) ≡ shares_for p v own blocked rows → made ≡ shares_for p v own blocked rows
   unfolding shares_for
-  shares_none = refl
+  shares_done made rows i l h = made_all (shares_for p v own blocked) made _ rows i refl l h
 
 -- ---- one changed
-pub changed_set : {R : Type 0} (f : R → R) (d : R) (rows : List R) (i : ℕ) → i < length rows → set rows i (f (get_or rows i d)) ≡ changed_at f rows i
+pub changed_set : {R : Type 0} (f : R → R) (r s : R) (rows : List R) (i : ℕ) → i < length rows → r ≡ get_or rows i r → s ≡ f r → set rows i s ≡ changed_at f rows i
 unfolding changed_at
-changed_set f d [] i l = absurd (omega arith)
-changed_set f d (r ∷ rs) zero l = refl
-changed_set f d (r ∷ rs) (suc i) l = ap (λ t. r ∷ t) (changed_set f d rs i (omega arith))
+changed_set f r s [] i l e h = absurd (omega arith)
+changed_set f r s (x ∷ xs) zero l e h = ap (λ t. t ∷ xs) (h ∙ ap f e)
+changed_set f r s (x ∷ xs) (suc i) l e h = ap (λ t. x ∷ t) (changed_set f r s xs i (omega arith) e h)
 
 pub changed_past : {R : Type 0} (f : R → R) (rows : List R) (i : ℕ) → length rows ≤ i → changed_at f rows i ≡ rows
 unfolding changed_at
@@ -83,27 +84,29 @@ length_changed f [] i = refl
 length_changed f (r ∷ rs) zero = refl
 length_changed f (r ∷ rs) (suc i) = ap suc (length_changed f rs i)
 
+-- ---- a share with another weight
 light_cond : (b : Bool) (m n : ℕ) → m ≤ most_weight → n ≤ most_weight → cond b m n ≤ most_weight
 light_cond true m n h k = h
 light_cond false m n h k = k
 
-pub light_changed : (w : ℕ) → w ≤ most_weight → (xs : List Share) (i : ℕ) → heaviest xs ≤ most_weight → heaviest (changed_at (reweighed w) xs i) ≤ most_weight
-unfolding heaviest changed_at
-light_changed w h [] i l = l
-light_changed w h (s ∷ ss) zero l = let a : cond (eqb s.weight 0) s.weight w ≤ most_weight = light_cond (eqb s.weight 0) s.weight w (omega arith) h in omega arith
-light_changed w h (s ∷ ss) (suc i) l = let r = light_changed w h ss i (omega arith) in omega arith
+pub light_set : (w : ℕ) (r s : Share) (xs : List Share) (i : ℕ) → i < length xs → r ≡ get_or xs i r → s ≡ reweighed w r → heaviest xs ≤ most_weight → w ≤ most_weight → heaviest (set xs i s) ≤ most_weight
+unfolding heaviest
+light_set w r s [] i l e f h k = h
+light_set w r s (x ∷ xs) zero l e f h k =
+    let a : s.weight ≤ most_weight = rw (f, e) (light_cond (eqb x.weight 0) x.weight w (omega arith) k) in
+    omega arith
+light_set w r s (x ∷ xs) (suc i) l e f h k = let a = light_set w r s xs i (omega arith) e f (omega arith) k in omega arith
 
 -- no share is aside
-first_of_two : (x y : Share) (xs ys : List Share) → x ∷ xs ≡ y ∷ ys → (x ≡ y) × (xs ≡ ys)
-first_of_two x y xs ys e = (cc, cc)
+heads : (x y : Share) (xs ys : List Share) → x ∷ xs ≡ y ∷ ys → (x ≡ y) × (xs ≡ ys)
+heads x y xs ys e = (cc, cc)
 
-pub back_changed : (w : ℕ) (xs : List Share) (i : ℕ) → all_back xs ≡ xs → all_back (changed_at (reweighed w) xs i) ≡ changed_at (reweighed w) xs i
-unfolding changed_at
-back_changed w [] i h = refl
-back_changed w (s ∷ ss) zero h =
-    let t = first_of_two (back s) s (all_back ss) ss h in
-    let a : false ≡ s.aside = ap (λ (x : Share). x.aside) t.0 in
-    ap (λ b. record { weight = cond (eqb s.weight 0) s.weight w; aside = b } ∷ all_back ss) a ∙ ap (λ l. reweighed w s ∷ l) t.1
-back_changed w (s ∷ ss) (suc i) h =
-    let t = first_of_two (back s) s (all_back ss) ss h in
-    ap (λ x. x ∷ all_back (changed_at (reweighed w) ss i)) t.0 ∙ ap (λ l. s ∷ l) (back_changed w ss i t.1)
+pub back_set : (w : ℕ) (r s : Share) (xs : List Share) (i : ℕ) → i < length xs → r ≡ get_or xs i r → s ≡ reweighed w r → all_back xs ≡ xs → all_back (set xs i s) ≡ set xs i s
+back_set w r s [] i l e f h = refl
+back_set w r s (x ∷ xs) zero l e f h =
+    let t = heads (back x) x (all_back xs) xs h in
+    let a : false ≡ s.aside = ap (λ (y : Share). y.aside) t.0 ∙ sym (ap (λ (y : Share). y.aside) (f ∙ ap (reweighed w) e)) in
+    ap (λ b. record { weight = s.weight; aside = b } ∷ all_back xs) a ∙ ap (λ l. s ∷ l) t.1
+back_set w r s (x ∷ xs) (suc i) l e f h =
+    let t = heads (back x) x (all_back xs) xs h in
+    ap (λ y. y ∷ all_back (set xs i s)) t.0 ∙ ap (λ l. x ∷ l) (back_set w r s xs i (omega arith) e f t.1)

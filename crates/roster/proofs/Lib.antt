@@ -1,4 +1,3 @@
 pub mod Joins
-pub mod Shares
-pub mod Records
+pub mod Hefts
 pub mod Laws

@@ -7,7 +7,7 @@ use Rattle.tables.specs.declared.row.Only.{Only}
 use Rattle.tables.specs.declared.table.error.TableError.{TableError}
 use Rattle.tables.specs.declared.table.error.TableError.TheVariants.{Rows, Memory}
 use Rattle.tables.specs.Rows.{place_of, at_place}
-use Rattle.tables.specs.Tables.{Tab, with_rows, Outside}
+use Rattle.tables.specs.Tables.{Tab, tab_of, with_rows, Outside}
 use Rattle.roster.specs.declared.row.PeerRow.{PeerRow}
 use Rattle.roster.specs.declared.participants.Participants.{Participants}
 use Rattle.roster.specs.Bounds.{most_peers}
@@ -19,7 +19,7 @@ pub record Roster (P V : Type 0) : Type 0 where
   pub shares : List Share
 
 abbrev pub roster_of : {P V : Type 0} → Participants P V → Roster P V
-roster_of t = record { peers = record { engine = t.engine; most = t.most; rows = vec_items t.rows }; shares = vec_items t.shares }
+roster_of t = record { peers = tab_of t.peers; shares = vec_items t.shares.rows }
 
 -- the roster with other rows and shares
 abbrev pub with_peers : {P V : Type 0} → Roster P V → List (PeerRow P V) → List Share → Roster P V

@@ -1,44 +1,37 @@
 // The share of each row in a draw.
-ghost use Rattle.std.specs.Prelude.{◌≡◌, ℕ, ◌^◌, ◌<◌, ◌≤◌, max, [], ◌++◌, length, vec_len, vec_capacity};
+ghost use Rattle.std.specs.Prelude.{◌≡◌, ℕ, ◌^◌, ◌<◌, ◌≤◌, [], ◌∷◌, ◌++◌, length, vec_len, vec_capacity, IfOk};
 ghost use Rattle.score.specs.Bounds.{most_weight};
-ghost use Rattle.draw.specs.Rows.{all_back, heft};
+ghost use Rattle.draw.specs.Rows.{back, all_back, heft};
 ghost use Rattle.tables.specs.Tables.{tab_of};
 ghost use Rattle.roster.specs.Bounds.{most_peers};
 ghost use Rattle.roster.specs.Weights.{heaviest, changed_at, reweighed};
-ghost use Rattle.roster.specs.Peers.{is_own, is_out, share_for, shares_for};
+ghost use Rattle.roster.specs.Peers.{share_for, shares_for};
 
+use crate::excluded::Excluded;
 use crate::row::PeerRow;
 use draw::Share;
 use kinds::Ordered;
 use score::Rating;
-use std::cmp::Ordering;
-use tables::{Only, Table};
+use std::alloc::{AllocError, Global};
 
-fn is_own<P: Ordered>(own: Option<P>, peer: P) -> bool
-    ensures { result ≡ is_own P.Ordered.own own peer }
-{
-    match own {
-        None => false,
-        Some(p) => matches!(p.compare(&peer), Ordering::Equal),
-    }
-}
-
-// Whether a peer is never asked: the engine's own, or blocked.
-fn is_out<P: Ordered>(own: Option<P>, blocked: &Table<Only<P>>, peer: P) -> bool
-    ensures { result ≡ is_out P.Ordered.own own (tab_of blocked.now).rows peer }
-{
-    is_own(own, peer) || blocked.get(peer).is_some()
+// The shares of at most `most` rows, none set aside. All weights together stay below 2^64.
+#[derive(Drop)]
+pub struct Shares {
+    most: usize,
+    pub rows: Vec<Share>,
+    ghost few: { most ≤ most_peers },
+    ghost within: { vec_len rows ≤ most },
+    ghost reserved: { most ≤ vec_capacity rows },
+    ghost light: { heaviest rows.items ≤ most_weight },
+    ghost fits: { heft rows.items < 2 ^ 64 },
+    ghost back: { all_back rows.items ≡ rows.items },
 }
 
 // The share of a row: nothing if it is never asked, else its rating's weight.
-fn share_of<P: Ordered, V: Rating>(
-    row: &PeerRow<P, V>,
-    own: Option<P>,
-    blocked: &Table<Only<P>>,
-) -> Share
-    ensures { result ≡ share_for P.Ordered.own V.Rating own (tab_of blocked.now).rows row.now }
+fn share_of<P: Ordered, V: Rating>(row: &PeerRow<P, V>, excluded: &Excluded<'_, P>) -> Share
+    ensures { result ≡ share_for P.Ordered.own V.Rating excluded.now.own (tab_of excluded.now.blocked.now).rows row.now }
 {
-    let weight = if is_out(own, blocked, row.peer) {
+    let weight = if excluded.contains(row.peer) {
         0
     } else {
         row.rating.weight()
@@ -46,28 +39,6 @@ fn share_of<P: Ordered, V: Rating>(
     Share {
         weight,
         aside: false,
-    }
-}
-
-// Weighs every row anew, within the capacity.
-pub fn weigh_all<P: Ordered, V: Rating>(
-    rows: &[PeerRow<P, V>],
-    own: Option<P>,
-    blocked: &Table<Only<P>>,
-    shares: &mut Vec<Share>,
-)
-    requires room { length rows.now ≤ vec_capacity shares.old }
-    requires few { length rows.now ≤ most_peers }
-    ensures items { shares.new.items ≡ shares_for P.Ordered.own V.Rating own (tab_of blocked.now).rows rows.now }
-    ensures len { vec_len shares.new ≡ length rows.now }
-    ensures capacity { vec_capacity shares.new ≡ vec_capacity shares.old }
-    ensures light { heaviest shares.new.items ≤ most_weight }
-    ensures fits { heft shares.new.items < 2 ^ 64 }
-    ensures back { all_back shares.new.items ≡ shares.new.items }
-{
-    shares.clear();
-    for row in rows {
-        shares.push_reserved(share_of(row, own, blocked));
     }
 }
 
@@ -84,20 +55,53 @@ fn reweighed_share(share: Share, weight: u64) -> Share
     }
 }
 
-// The share at a place becomes the weight, unless it is 0.
-pub fn reweigh(shares: &mut Vec<Share>, i: usize, weight: u64)
-    requires light { heaviest shares.old.items ≤ most_weight }
-    requires bound { weight ≤ most_weight }
-    requires few { vec_len shares.old ≤ most_peers }
-    requires back { all_back shares.old.items ≡ shares.old.items }
-    ensures items { shares.new.items ≡ changed_at (reweighed weight) shares.old.items i }
-    ensures len { vec_len shares.new ≡ vec_len shares.old }
-    ensures capacity { vec_capacity shares.new ≡ vec_capacity shares.old }
-    ensures light { heaviest shares.new.items ≤ most_weight }
-    ensures fits { heft shares.new.items < 2 ^ 64 }
-    ensures back { all_back shares.new.items ≡ shares.new.items }
-{
-    if i < shares.len() {
-        shares[i] = reweighed_share(shares[i], weight);
+#[tactic(auto, using(crate::proofs::Hefts::light_none, crate::proofs::Hefts::back_none, crate::proofs::Hefts::light_more, crate::proofs::Hefts::back_more, crate::proofs::Hefts::heft_fits, crate::proofs::Hefts::shares_done))]
+impl Shares {
+    // No shares, with memory for `most`.
+    pub(crate) fn new(heap: Global, most: usize) -> Result<Shares, AllocError>
+        requires { most ≤ most_peers }
+        ensures { IfOk result (λ s. (s.most ≡ most) × (s.rows.items ≡ [])) }
+    {
+        let rows = Vec::with_capacity(heap, most)?;
+        Ok(Shares { most, rows })
+    }
+
+    // Appends a share.
+    fn push(&mut self, share: Share)
+        requires room { length self.old.rows.items < self.old.most }
+        requires light { share.weight ≤ most_weight }
+        requires back { back share ≡ share }
+        ensures rows { self.new.rows.items ≡ self.old.rows.items ++ share ∷ [] }
+        ensures most { self.new.most ≡ self.old.most }
+    {
+        self.rows.push_reserved(share);
+    }
+
+    // Weighs every row anew.
+    pub(crate) fn weigh<P: Ordered, V: Rating>(
+        &mut self,
+        rows: &[PeerRow<P, V>],
+        excluded: Excluded<'_, P>,
+    )
+        requires { length rows.now ≤ self.old.most }
+        ensures rows { self.new.rows.items ≡ shares_for P.Ordered.own V.Rating excluded.entry.own (tab_of excluded.entry.blocked.now).rows rows.now }
+        ensures most { self.new.most ≡ self.old.most }
+    {
+        self.rows.clear();
+        for row in rows {
+            self.push(share_of(row, &excluded));
+        }
+    }
+
+    // The share at a place becomes the weight, unless it is 0.
+    #[tactic(auto, using(crate::proofs::Hefts::changed_set, crate::proofs::Hefts::changed_past, crate::proofs::Hefts::light_set, crate::proofs::Hefts::back_set, crate::proofs::Hefts::heft_fits))]
+    pub(crate) fn reweigh(&mut self, i: usize, weight: u64)
+        requires { weight ≤ most_weight }
+        ensures rows { self.new.rows.items ≡ changed_at (reweighed weight) self.old.rows.items i }
+        ensures most { self.new.most ≡ self.old.most }
+    {
+        if i < self.rows.len() {
+            self.rows[i] = reweighed_share(self.rows[i], weight);
+        }
     }
 }

@@ -1,57 +1,21 @@
-use Rattle.std.proofs.Common.{◌≡◌, ◌+◌, [], ◌∷◌, ◌++◌, drop, vec_items, Less, Equal, Greater, refl, ap, ◌∙◌, arith}
-use Rattle.roster.specs.Peers.{joined}
-use Rattle.roster.proofs.Joins.{nothing_before, turn_new, turn_less, turn_equal, turn_greater, join_all}
+use Rattle.std.proofs.Common.{◌≡◌, ◌++◌, ◌∷◌, [], length, length-append, ap, ◌∙◌, arith}
+use Rattle.tables.specs.Tables.{Tab, tab_of, with_rows}
+use Rattle.roster.proofs.Joins.{pushed, join_step, join_done}
 use Rattle.roster.proofs.join.join.Goals as goal
 
-pub loop-j-init : goal.loop-j-init
-loop-j-init g c = (nothing_before (vec_items c.args.out.now) _ (omega arith), omega arith, omega arith, omega arith, refl)
-
-pub loop-j-preserved-then-i-old : goal.loop-j-preserved-then-i-old
-loop-j-preserved-then-i-old g c = (
-  ap (λ t. t ++ joined g.P.Ordered g.V.Rating (drop (c.loop-j.j + 1) c.args.list.now) (drop c.loop-j.i c.args.old.now)) (c.push_reserved.ensures.items ∙ ap (λ x. vec_items c.loop-j.out ++ x ∷ []) c.newcomer_row.ensures)
-      ∙ turn_new g.P.Ordered g.V.Rating c.args.list.now c.args.old.now _ (vec_items c.loop-j.out) c.loop-j.i c.loop-j.j c.index-list-j.result (omega arith) c.index-list-j.is c.loop-j.invariant.0 (omega arith),
-  omega arith,
-  omega arith,
-  omega arith,
-  omega arith,
-)
-
-pub loop-j-preserved-in-Less : goal.loop-j-preserved-in-Less
-loop-j-preserved-in-Less g c =
-    let e : g.P.Ordered.order c.index-old-i.result.peer c.index-list-j.result ≡ Less = cc in (
-      turn_less g.P.Ordered g.V.Rating c.args.list.now c.args.old.now _ (vec_items c.loop-j.out) c.loop-j.i c.loop-j.j c.index-list-j.result (omega arith) c.index-list-j.is c.loop-j.invariant.0 c.index-old-i.result (omega arith) c.index-old-i.is e,
-      omega arith,
-      omega arith,
-      omega arith,
-      omega arith,
-    )
-
-pub loop-j-preserved-in-Equal : goal.loop-j-preserved-in-Equal
-loop-j-preserved-in-Equal g c =
-    let e : g.P.Ordered.order c.index-old-i.result.peer c.index-list-j.result ≡ Equal = cc in (
-      ap (λ t. t ++ joined g.P.Ordered g.V.Rating (drop (c.loop-j.j + 1) c.args.list.now) (drop (c.loop-j.i + 1) c.args.old.now)) c.push_reserved-in-Equal.ensures.items
-          ∙ turn_equal g.P.Ordered g.V.Rating c.args.list.now c.args.old.now _ (vec_items c.loop-j.out) c.loop-j.i c.loop-j.j c.index-list-j.result (omega arith) c.index-list-j.is c.loop-j.invariant.0 c.index-old-i.result (omega arith) c.index-old-i.is e,
-      omega arith,
-      omega arith,
-      omega arith,
-      omega arith,
-    )
-
-pub loop-j-preserved : goal.loop-j-preserved
-loop-j-preserved g c =
-    let e : g.P.Ordered.order c.index-old-i.result.peer c.index-list-j.result ≡ Greater = cc in (
-      ap (λ t. t ++ joined g.P.Ordered g.V.Rating (drop (c.loop-j.j + 1) c.args.list.now) (drop c.loop-j.i c.args.old.now)) (c.push_reserved-in-Greater.ensures.items ∙ ap (λ x. vec_items c.loop-j.out ++ x ∷ []) c.newcomer_row-in-Greater.ensures)
-          ∙ turn_greater g.P.Ordered g.V.Rating c.args.list.now c.args.old.now _ (vec_items c.loop-j.out) c.loop-j.i c.loop-j.j c.index-list-j.result (omega arith) c.index-list-j.is c.loop-j.invariant.0 c.index-old-i.result (omega arith) c.index-old-i.is e,
-      omega arith,
-      omega arith,
-      omega arith,
-      omega arith,
-    )
+pub loop-peer-preserved : goal.loop-peer-preserved
+loop-peer-preserved g c =
+    let t = tab_of c.loop-peer.out in
+    let i = c.loop-peer.invariant in
+    let new : tab_of c.push.new.self ≡ with_rows t (t.rows ++ c.row_of-row.result.0 ∷ []) = pushed _ t _ c.push.ensures.table (omega arith) in
+    record {
+      made = join_step g.P.Ordered g.V.Rating c.args.list.now t.rows _ c.loop-peer.peer-index c.peer-item.result _ _ c.loop-peer.rest.now _ (omega arith) c.peer-item.is c.row_of-row.ensures.row c.row_of-row.ensures.rest (ap (λ (x : Tab _). x.rows) new) i.made;
+      long = ap (λ (x : Tab _). length x.rows) new ∙ simp length-append (omega arith);
+      engine = ap (λ (x : Tab _). x.engine) new ∙ i.engine;
+      most = ap (λ (x : Tab _). x.most) new ∙ i.most;
+    }
 
 pub returns : goal.returns
 returns g c =
-    record {
-      items = join_all g.P.Ordered g.V.Rating c.args.list.now c.args.old.now _ (vec_items c.loop-j.out) c.loop-j.i c.loop-j.j (omega arith) c.loop-j.invariant.0;
-      len = omega arith;
-      capacity = omega arith;
-    }
+    let rows = join_done g.P.Ordered g.V.Rating c.args.list.now _ _ c.loop-peer.peer-index c.loop-peer.rest.now (omega arith) c.loop-peer.invariant.made in
+    cc

@@ -1,0 +1,9 @@
+use Rattle.std.proofs.Common.{◌≡◌, ◌++◌, drop, vec_items, length}
+use Rattle.tables.specs.Tables.{tab_of}
+use Rattle.roster.specs.Peers.{shares_for}
+use Rattle.roster.proofs.weights.Shares.weigh.Given as goal
+
+abbrev pub invariant-loop-row : goal.invariant-loop-row
+invariant-loop-row g l =
+    (vec_items l.self.rows ++ shares_for g.P.Ordered g.V.Rating l.excluded.own (tab_of l.excluded.blocked.now).rows (drop l.row-index l.rows) ≡ shares_for g.P.Ordered g.V.Rating l.excluded.own (tab_of l.excluded.blocked.now).rows l.rows)
+    × (length (vec_items l.self.rows) ≡ l.row-index) × (l.self.most ≡ l.initial.self.most)

@@ -1,0 +1,23 @@
+// Peers that are never asked.
+ghost use Rattle.std.specs.Prelude.{◌≡◌};
+ghost use Rattle.tables.specs.Tables.{tab_of};
+ghost use Rattle.roster.specs.Peers.{is_out};
+
+use kinds::Ordered;
+use tables::{Only, Table};
+
+// The engine's own peer, if any, and the blocked ones.
+#[derive(Clone, Copy)]
+pub struct Excluded<'a, P: Copy> {
+    pub own: Option<P>,
+    pub blocked: &'a Table<Only<P>>,
+}
+
+impl<'a, P: Ordered> Excluded<'a, P> {
+    // Whether a peer is never asked.
+    pub fn contains(&self, peer: P) -> bool
+        ensures { result ≡ is_out P.Ordered.own self.now.own (tab_of self.now.blocked.now).rows peer }
+    {
+        self.own.is_some_and(|own| own == peer) || self.blocked.get(peer).is_some()
+    }
+}
