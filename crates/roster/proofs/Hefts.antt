@@ -1,6 +1,7 @@
 -- What shares weigh together, and at most.
-use Rattle.std.proofs.Common.{◌≡◌, ℕ, zero, suc, ◌*◌, ◌^◌, ◌<◌, ◌≤◌, Bool, true, false, cond, eqb, List, [], ◌∷◌, ◌++◌, ◌+◌, length, get_or, drop, set, Option, sym, refl, ap, ◌∙◌, suc-mul, arith}
+use Rattle.std.proofs.Common.{◌≡◌, ℕ, zero, suc, ◌*◌, ◌^◌, ◌<◌, ◌≤◌, Bool, false, List, [], ◌∷◌, ◌++◌, ◌+◌, length, get_or, drop, set, Option, sym, refl, ap, ◌∙◌, suc-mul, arith}
 use Rattle.std.proofs.lemmas.List.{map-append}
+use Rattle.std.proofs.lemmas.Bool.Decides.{nat_tests}
 use Rattle.kinds.specs.declared.ordered.Ordered.{Ghosts as Order}
 use Rattle.score.specs.Bounds.{most_weight}
 use Rattle.score.specs.declared.rating.Rating.{Ghosts as Rate}
@@ -72,12 +73,6 @@ changed_past f [] i l = refl
 changed_past f (r ∷ rs) zero l = absurd (omega arith)
 changed_past f (r ∷ rs) (suc i) l = ap (λ t. r ∷ t) (changed_past f rs i (omega arith))
 
-pub changed_same : {R : Type 0} (f : R → R) (d : R) (rows : List R) (i : ℕ) → i < length rows → f (get_or rows i d) ≡ get_or rows i d → changed_at f rows i ≡ rows
-unfolding changed_at
-changed_same f d [] i l e = refl
-changed_same f d (r ∷ rs) zero l e = rw e refl
-changed_same f d (r ∷ rs) (suc i) l e = ap (λ t. r ∷ t) (changed_same f d rs i (omega arith) e)
-
 pub length_changed : {R : Type 0} (f : R → R) (rows : List R) (i : ℕ) → length (changed_at f rows i) ≡ length rows
 unfolding changed_at
 length_changed f [] i = refl
@@ -85,28 +80,25 @@ length_changed f (r ∷ rs) zero = refl
 length_changed f (r ∷ rs) (suc i) = ap suc (length_changed f rs i)
 
 -- ---- a share with another weight
-light_cond : (b : Bool) (m n : ℕ) → m ≤ most_weight → n ≤ most_weight → cond b m n ≤ most_weight
-light_cond true m n h k = h
-light_cond false m n h k = k
-
 pub light_set : (w : ℕ) (r s : Share) (xs : List Share) (i : ℕ) → i < length xs → r ≡ get_or xs i r → s ≡ reweighed w r → heaviest xs ≤ most_weight → w ≤ most_weight → heaviest (set xs i s) ≤ most_weight
 unfolding heaviest
 light_set w r s [] i l e f h k = h
 light_set w r s (x ∷ xs) zero l e f h k =
-    let a : s.weight ≤ most_weight = rw (f, e) (light_cond (eqb x.weight 0) x.weight w (omega arith) k) in
+    let a : s.weight ≤ most_weight = rw (f, e) (grind (arith, nat_tests)) in
     omega arith
 light_set w r s (x ∷ xs) (suc i) l e f h k = let a = light_set w r s xs i (omega arith) e f (omega arith) k in omega arith
 
 -- no share is aside
-heads : (x y : Share) (xs ys : List Share) → x ∷ xs ≡ y ∷ ys → (x ≡ y) × (xs ≡ ys)
-heads x y xs ys e = (cc, cc)
-
 pub back_set : (w : ℕ) (r s : Share) (xs : List Share) (i : ℕ) → i < length xs → r ≡ get_or xs i r → s ≡ reweighed w r → all_back xs ≡ xs → all_back (set xs i s) ≡ set xs i s
 back_set w r s [] i l e f h = refl
 back_set w r s (x ∷ xs) zero l e f h =
-    let t = heads (back x) x (all_back xs) xs h in
-    let a : false ≡ s.aside = ap (λ (y : Share). y.aside) t.0 ∙ sym (ap (λ (y : Share). y.aside) (f ∙ ap (reweighed w) e)) in
-    ap (λ b. record { weight = s.weight; aside = b } ∷ all_back xs) a ∙ ap (λ l. s ∷ l) t.1
+    let a : x.aside ≡ false = cc in
+    let b : s.aside ≡ false = ap (λ (y : Share). y.aside) (f ∙ ap (reweighed w) e) ∙ a in
+    let t : all_back xs ≡ xs = cc in
+    let u : back s ≡ s = ap (λ (v : Bool). record { weight = s.weight; aside = v }) (sym b) in
+    cc
 back_set w r s (x ∷ xs) (suc i) l e f h =
-    let t = heads (back x) x (all_back xs) xs h in
-    ap (λ y. y ∷ all_back (set xs i s)) t.0 ∙ ap (λ l. x ∷ l) (back_set w r s xs i (omega arith) e f t.1)
+    let t : all_back xs ≡ xs = cc in
+    let u : back x ≡ x = cc in
+    let k = back_set w r s xs i (omega arith) e f t in
+    cc

@@ -1,5 +1,5 @@
 -- What a caller may know of a roster that was taken over from a list.
-use Rattle.std.proofs.Common.{◌≡◌, ℕ, suc, List, [], ◌∷◌, map, length, None, Option, Ordering, Less, Equal, unwrap_or, sym, refl, ap, ◌∙◌, subst, arith}
+use Rattle.std.proofs.Common.{◌≡◌, suc, List, [], ◌∷◌, map, length, None, Option, Ordering, Less, Equal, unwrap_or, sym, refl, ap, ◌∙◌, subst}
 use Rattle.std.specs.Ordering.{ordering_reverse}
 use Rattle.std.specs.List.{AllByRecursion as All}
 use Rattle.kinds.specs.declared.ordered.Ordered.{Ghosts as Order}
@@ -39,7 +39,7 @@ module _ {P V : Type 0} (p : Order P) (o : Lawful p.order) (v : Rate V) where
   find q rows = walks.lookup p.order peer_of q rows
 
   unequal : (x : Ordering) → x ≡ Less → x ≡ Equal → ⊥
-  unequal x a b = let z : ◌≡◌ {A = ℕ} 0 1 = cc in omega arith
+  unequal x a b = cc
 
   skip : (q : P) (r : PeerRow P V) (rs : List (PeerRow P V)) → p.order r.peer q ≡ Less → find q (r ∷ rs) ≡ find q rs
   skip q r rs e = walk.lookup_skip p.order o peer_of q r rs (unequal _ e)
@@ -59,7 +59,7 @@ module _ {P V : Type 0} (p : Order P) (o : Lawful p.order) (v : Rate V) where
       (λ e. rw (e, e) (ap (λ x. unwrap_or x (fresh_row v q)) (sym (walk.lookup_here p.order o peer_of q r rs e))))
       (λ e.
       let l : p.order q r.peer ≡ Less = o.turned r.peer q ∙ ap ordering_reverse e in
-      let n : find q (r ∷ rs) ≡ None = walk.lookup_skip p.order o peer_of q r rs (λ f. let z : ◌≡◌ {A = ℕ} 0 1 = cc in omega arith) ∙ none_beyond q r rs l u.0 in
+      let n : find q (r ∷ rs) ≡ None = walk.lookup_skip p.order o peer_of q r rs (λ f. cc) ∙ none_beyond q r rs l u.0 in
       rw (e, e) (ap (λ x. unwrap_or x (fresh_row v q)) (sym n)))
 
   -- rows passed over at q have no later peer

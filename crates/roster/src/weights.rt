@@ -49,10 +49,7 @@ fn reweighed_share(share: Share, weight: u64) -> Share
     if share.weight == 0 {
         return share;
     }
-    Share {
-        weight,
-        aside: share.aside,
-    }
+    Share { weight, ..share }
 }
 
 #[tactic(auto, using(crate::proofs::Hefts::light_none, crate::proofs::Hefts::back_none, crate::proofs::Hefts::light_more, crate::proofs::Hefts::back_more, crate::proofs::Hefts::heft_fits, crate::proofs::Hefts::shares_done))]
