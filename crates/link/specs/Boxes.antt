@@ -8,7 +8,11 @@ use Rattle.link.specs.declared.outbox.Outbox.{Outbox}
 use Rattle.link.specs.Frames.{frame, frame_len, frames}
 
 abbrev pub bytes_of : {P K : Type 0} → Outbox P K → List ℕ
-bytes_of o = vec_items o.bytes
+bytes_of o = vec_items o.bytes.written
+
+-- how many bytes there may be
+abbrev pub room_of : {P K : Type 0} → Outbox P K → ℕ
+room_of o = o.bytes.room
 
 -- a message, and whether the send of it was accepted
 pub record Try (P K : Type 0) : Type 0 where
@@ -28,14 +32,14 @@ last_of o (m ∷ ms) = last_of (Some m) ms
 -- an outbox with nothing in it
 pub record Empty {P K : Type 0} (most : ℕ) (o : Outbox P K) : Type 0 where
   pub bytes : bytes_of o ≡ []
-  pub room : o.room ≡ most
+  pub room : room_of o ≡ most
   pub count : o.tally.count ≡ 0
   pub latest : o.tally.latest ≡ None
 
 module _ {P K : Type 0} (p : Form P) (k : Form K) where
   -- whether one more message fits
   abbrev pub fits : Outbox P K → Bool
-  fits o = nat_le (length (bytes_of o) + frame_len p k) o.room
+  fits o = nat_le (length (bytes_of o) + frame_len p k) (room_of o)
 
   -- the word for every peer at every time
   abbrev pub box_word : Outbox P K → P → ℕ → Word
@@ -47,7 +51,7 @@ module _ {P K : Type 0} (p : Form P) (k : Form K) where
     pub bytes : bytes_of n ≡ cond accepted (bytes_of o ++ frame p k m) (bytes_of o)
     pub count : n.tally.count ≡ cond accepted ((o.tally.count + 1) % 2 ^ 64) o.tally.count
     pub latest : n.tally.latest ≡ cond accepted (Some m) o.tally.latest
-    pub room : n.room ≡ o.room
+    pub room : room_of n ≡ room_of o
 
   -- sends in a row
   unfoldable pub Run : Outbox P K → List (Try P K) → Outbox P K → Type 0

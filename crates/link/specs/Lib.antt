@@ -1,5 +1,6 @@
 pub mod Meaning
 pub mod Frames
+pub mod Space
 pub mod Boxes
 pub mod Lanes
 pub mod LaneCalls

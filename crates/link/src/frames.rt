@@ -1,81 +1,82 @@
-// Writes messages within the capacity of a byte vector.
-ghost use Rattle.std.specs.Prelude.{◌≡◌, ◌+◌, ◌≤◌, [], ◌++◌, length, vec_len, vec_capacity};
+// Writes messages to reserved bytes.
+ghost use Rattle.std.specs.Prelude.{◌≡◌, ◌+◌, [], length, IfOk};
 ghost use Rattle.kinds.specs.Bytes.{be8};
 ghost use Rattle.link.specs.Frames.{field, frame, frame_len};
+ghost use Rattle.link.specs.Space.{Blank, HasRoom, Grown};
 
+use crate::reserved::Reserved;
 use crate::words::Message;
-use kinds::{Storable, u16_bytes, u64_bytes};
+use kinds::Storable;
+use std::alloc::{AllocError, Global};
 
-// Appends bytes.
-fn put_bytes(out: &mut Vec<u8>, more: &[u8])
-    requires { vec_len out.old + length more.now ≤ vec_capacity out.old }
-    ensures items { out.new.items ≡ out.old.items ++ more.now }
-    ensures len { vec_len out.new ≡ vec_len out.old + length more.now }
-    ensures capacity { vec_capacity out.old ≤ vec_capacity out.new }
+// An id in bytes, most significant first.
+fn id_bytes(id: u64) -> [u8; 8]
+    ensures { result ≡ be8 id }
 {
-    match out.extend_from_slice(more) {
-        Ok(()) => {}
-        Err(_) => unreachable(),
+    id.to_be_bytes()
+}
+
+impl Reserved {
+    // Memory for some bytes, with nothing written, or the want of it.
+    pub(crate) fn new(heap: Global, room: usize) -> Result<Reserved, AllocError>
+        ensures { IfOk result (λ r. Blank room r) }
+    {
+        let written = Vec::with_capacity(heap, room)?;
+        Ok(Reserved { written, room })
     }
-}
 
-// Appends the form of a value.
-fn put_form<T: Storable>(out: &mut Vec<u8>, x: &T)
-    requires { vec_len out.old + T.Storable.width ≤ vec_capacity out.old }
-    ensures items { out.new.items ≡ out.old.items ++ T.Storable.form x.now }
-    ensures len { vec_len out.new ≡ vec_len out.old + T.Storable.width }
-    ensures capacity { vec_capacity out.old ≤ vec_capacity out.new }
-{
-    match x.put(out) {
-        Ok(()) => {}
-        Err(_) => unreachable(),
+    // Appends bytes.
+    fn put_bytes(&mut self, more: &[u8])
+        requires { HasRoom (length more.now) self.old }
+        ensures { Grown self.old more.now self.new }
+    {
+        self.written.extend_from_slice(more).unwrap();
     }
-}
 
-// Appends the tag and the length of a field.
-fn put_head(out: &mut Vec<u8>, tag: u8, size: u16)
-    requires { vec_len out.old + 3 ≤ vec_capacity out.old }
-    ensures items { out.new.items ≡ out.old.items ++ field tag size [] }
-    ensures len { vec_len out.new ≡ vec_len out.old + 3 }
-    ensures capacity { vec_capacity out.old ≤ vec_capacity out.new }
-{
-    let [high, low] = u16_bytes(size);
-    put_bytes(out, &[tag, high, low]);
-}
+    // Appends the form of a value.
+    fn put_form<T: Storable>(&mut self, x: &T)
+        requires { HasRoom T.Storable.width self.old }
+        ensures { Grown self.old (T.Storable.form x.now) self.new }
+    {
+        x.put(&mut self.written).unwrap();
+    }
 
-// Appends the field of an id.
-fn put_id(out: &mut Vec<u8>, id: u64)
-    requires { vec_len out.old + (3 + 8) ≤ vec_capacity out.old }
-    ensures items { out.new.items ≡ out.old.items ++ field 1 8 (be8 id) }
-    ensures len { vec_len out.new ≡ vec_len out.old + (3 + 8) }
-    ensures capacity { vec_capacity out.old ≤ vec_capacity out.new }
-{
-    put_head(out, 1, 8);
-    put_bytes(out, &u64_bytes(id));
-}
+    // Appends the tag and the length of a field.
+    fn put_head(&mut self, tag: u8, size: u16)
+        requires { HasRoom 3 self.old }
+        ensures { Grown self.old (field tag size []) self.new }
+    {
+        let [high, low] = size.to_be_bytes();
+        self.put_bytes(&[tag, high, low]);
+    }
 
-// Appends the field of a value of a storable kind.
-fn put_field<T: Storable>(out: &mut Vec<u8>, tag: u8, x: &T)
-    requires { vec_len out.old + (3 + T.Storable.width) ≤ vec_capacity out.old }
-    ensures items { out.new.items ≡ out.old.items ++ field tag T.Storable.width (T.Storable.form x.now) }
-    ensures len { vec_len out.new ≡ vec_len out.old + (3 + T.Storable.width) }
-    ensures capacity { vec_capacity out.old ≤ vec_capacity out.new }
-{
-    put_head(out, tag, T::size());
-    put_form(out, x);
-}
+    // Appends the field of an id.
+    fn put_id(&mut self, id: u64)
+        requires { HasRoom (3 + 8) self.old }
+        ensures { Grown self.old (field 1 8 (be8 id)) self.new }
+    {
+        self.put_head(1, 8);
+        self.put_bytes(&id_bytes(id));
+    }
 
-// Appends a message.
-pub(crate) fn put_frame<P: Storable, K: Storable>(out: &mut Vec<u8>, message: &Message<P, K>)
-    requires { vec_len out.old + frame_len P.Storable.own K.Storable.own ≤ vec_capacity out.old }
-    ensures items { out.new.items ≡ out.old.items ++ frame P.Storable.own K.Storable.own message.now }
-    ensures len { vec_len out.new ≡ vec_len out.old + frame_len P.Storable.own K.Storable.own }
-    ensures capacity { vec_capacity out.old ≤ vec_capacity out.new }
-    ensures size { length (frame P.Storable.own K.Storable.own message.now) ≡ frame_len P.Storable.own K.Storable.own }
-{
-    put_id(out, message.id);
-    put_field(out, 2, &message.peer);
-    put_field(out, 3, &message.key);
+    // Appends the field of a value of a storable kind.
+    fn put_field<T: Storable>(&mut self, tag: u8, x: &T)
+        requires { HasRoom (3 + T.Storable.width) self.old }
+        ensures { Grown self.old (field tag T.Storable.width (T.Storable.form x.now)) self.new }
+    {
+        self.put_head(tag, T::size());
+        self.put_form(x);
+    }
+
+    // Appends a message.
+    pub(crate) fn put_frame<P: Storable, K: Storable>(&mut self, message: &Message<P, K>)
+        requires { HasRoom (frame_len P.Storable.own K.Storable.own) self.old }
+        ensures { Grown self.old (frame P.Storable.own K.Storable.own message.now) self.new }
+    {
+        self.put_id(message.id);
+        self.put_field(2, &message.peer);
+        self.put_field(3, &message.key);
+    }
 }
 
 // How long a message is.

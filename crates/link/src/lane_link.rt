@@ -1,8 +1,7 @@
 // The lane link: to each station one message, then none until the spacing is over.
-ghost use Rattle.std.specs.Prelude.{◌≡◌, ◌^◌, ◌<◌, ◌&&◌, length, replicate, nat_lt, slice_set};
-ghost use Rattle.link.specs.declared.lane.Lane.TheVariants.{Closed, Free};
-ghost use Rattle.link.specs.Lanes.{lane_of, Within, free_from, free_after, InTime};
-ghost use Rattle.link.specs.LaneCalls.{number_of, Opened, station_word, ChangedIf, Passed};
+ghost use Rattle.std.specs.Prelude.{◌≡◌, ◌^◌, ◌<◌, ◌&&◌, nat_lt};
+ghost use Rattle.link.specs.Lanes.{lane_of, Within, free_from, free_after};
+ghost use Rattle.link.specs.LaneCalls.{number_of, Opened, station_word, Changed, ChangedIf, Passed};
 ghost use Rattle.link.specs.Meaning.{Sends};
 ghost use Rattle.std.proofs.Common.{rules};
 
@@ -20,24 +19,15 @@ const MOST_SPACING: u64 = 3_600_000_000_000;
 // The last time from which a lane can be free.
 const LAST_FREE: u64 = 0x7fff_ffff_ffff_ffff;
 
-impl Refusal {
-    // The number of the refusal.
-    pub fn number(self) -> u8
-        ensures { result ≡ number_of self }
-    {
-        match self {
+// The number of a refusal.
+impl From<Refusal> for u8 {
+    ghost from_gives = { λ refusal number. number ≡ number_of refusal };
+
+    fn from(refusal: Refusal) -> u8 {
+        match refusal {
             Refusal::Spacing => 1,
         }
     }
-}
-
-// The lanes of a new link.
-fn free_lanes() -> [Lane; 256]
-    ensures all { length result ≡ 256 }
-    ensures free { result ≡ replicate 256 (Free 0) }
-    ensures timely { InTime result }
-{
-    [Lane::Free(0); 256]
 }
 
 // The lane of a station.
@@ -45,22 +35,7 @@ fn lane_of(lanes: &[Lane; 256], station: u32) -> Lane
     ensures lane { result ≡ lane_of lanes.now station }
     ensures within { Within station result }
 {
-    if station < 256 {
-        lanes[station as usize]
-    } else {
-        Lane::Closed
-    }
-}
-
-// Puts a lane in the place of a station's.
-fn put_lane(lanes: &mut [Lane; 256], station: u32, lane: Lane)
-    requires within { station < 256 }
-    requires timely { InTime lanes.old }
-    requires soon { free_from lane < 2 ^ 63 }
-    ensures lanes { lanes.new ≡ slice_set lanes.old station lane }
-    ensures timely { InTime lanes.new }
-{
-    lanes[station as usize] = lane;
+    *lanes.get(station as usize)?
 }
 
 // When a lane is free again after a send.
@@ -80,7 +55,7 @@ impl<K: Ordered> Lanes<K> {
             return Err(Refusal::Spacing);
         }
         Ok(Lanes {
-            lanes: free_lanes(),
+            lanes: [Some(0); 256],
             spacing,
             tally: Tally::new(),
         })
@@ -114,27 +89,38 @@ impl<K: Ordered> Lanes<K> {
         self.tally.latest
     }
 
-    // Closes the lane of a station below 256.
+    // Makes the lane of a station another.
+    fn put(&mut self, station: u32, lane: Lane)
+        requires within { station < 256 }
+        requires soon { free_from lane < 2 ^ 63 }
+        ensures { Changed station lane self.old self.new }
+    {
+        self.lanes[station as usize] = lane;
+    }
+
+    // Closes the lane of a station below 256. A yes or no: a `Result` with the one
+    // reason to refuse would say no more.
     pub fn close(&mut self, station: Station) -> bool
         ensures answer { result ≡ nat_lt station.0 256 }
-        ensures lanes { ChangedIf result station.0 Closed self.old self.new }
+        ensures lanes { ChangedIf result station.0 None self.old self.new }
     {
         if station.0 >= 256 {
             return false;
         }
-        put_lane(&mut self.lanes, station.0, Lane::Closed);
+        self.put(station.0, None);
         true
     }
 
-    // Makes the lane of a station below 256 free from a time below 2^63 on.
+    // Makes the lane of a station below 256 free from a time below 2^63 on. A yes or no: the caller knows either
+    // reason to refuse, and a `Result` would say no more.
     pub fn set_free(&mut self, station: Station, time: u64) -> bool
         ensures answer { result ≡ (nat_lt station.0 256 && nat_lt time (2 ^ 63)) }
-        ensures lanes { ChangedIf result station.0 (Free time) self.old self.new }
+        ensures lanes { ChangedIf result station.0 (Some time) self.old self.new }
     {
         if station.0 >= 256 || time > LAST_FREE {
             return false;
         }
-        put_lane(&mut self.lanes, station.0, Lane::Free(time));
+        self.put(station.0, Some(time));
         true
     }
 }
@@ -150,7 +136,7 @@ impl<K: Ordered> Link<Station, K> for Lanes<K> {
 
     fn check(&self, peer: Station, time: u64) -> Result<Pass<Station>, u64> {
         match self.lane(peer) {
-            Lane::Free(until) if until > time => Err(until),
+            Some(until) if until > time => Err(until),
             _ => Ok(Pass { peer, time }),
         }
     }
@@ -161,9 +147,9 @@ impl<K: Ordered> Link<Station, K> for Lanes<K> {
     {
         let Pass { peer, time } = pass;
         match lane_of(&self.lanes, peer.0) {
-            Lane::Free(from) if from <= time => {
+            Some(from) if from <= time => {
                 let next = free_after(time, self.spacing);
-                put_lane(&mut self.lanes, peer.0, Lane::Free(next));
+                self.put(peer.0, Some(next));
                 self.tally.add(Message { id, peer, key });
                 true
             }

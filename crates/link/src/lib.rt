@@ -14,6 +14,7 @@ mod lanes;
 mod outbox;
 mod outbox_link;
 mod pass;
+mod reserved;
 mod tally;
 mod words;
 
@@ -37,7 +38,8 @@ pub trait Link<P: Ordered, K: Ordered> {
     fn check(&self, peer: P, time: u64) -> Result<Pass<P>, u64>
         ensures { Checks (word self.now peer time) peer time result };
 
-    // Sends a message under a pass, which is used up. It is accepted at the word take, else refused.
+    // Sends a message under a pass, which is used up. It is accepted at the word take, else refused: the form of the
+    // port, named in the rules.
     fn send(&mut self, pass: Pass<P>, id: u64, key: K) -> bool
         ensures { Sends word count latest self.old pass id key result self.new };
 

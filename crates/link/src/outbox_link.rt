@@ -1,32 +1,18 @@
 // The outbox link: it writes each message that it takes to its bytes.
-ghost use Rattle.std.specs.Prelude.{◌≡◌, ◌≤◌, [], length, IfOk, vec_len, vec_capacity};
+ghost use Rattle.std.specs.Prelude.{◌≡◌, length, IfOk};
 ghost use Rattle.link.specs.Meaning.{Sends, message_of};
-ghost use Rattle.link.specs.Boxes.{bytes_of, fits, box_word, Empty, Step, HoldsTaken};
+ghost use Rattle.link.specs.Boxes.{bytes_of, room_of, fits, box_word, Empty, Step, HoldsTaken};
 ghost use Rattle.std.proofs.Common.{rules};
 
 use crate::Link;
-use crate::frames::{frame_len, put_frame};
+use crate::frames::frame_len;
 use crate::outbox::Outbox;
 use crate::pass::Pass;
+use crate::reserved::Reserved;
 use crate::tally::Tally;
 use crate::words::Message;
 use kinds::Storable;
 use std::alloc::{AllocError, Global};
-
-// An outbox over bytes with nothing in them.
-fn empty<P: Storable, K: Storable>(bytes: Vec<u8>, room: usize) -> Outbox<P, K>
-    requires items { bytes.items ≡ [] }
-    requires len { vec_len bytes ≡ 0 }
-    requires capacity { room ≤ vec_capacity bytes }
-    ensures empty { Empty room result }
-    ensures taken { HoldsTaken P.Storable.own K.Storable.own result }
-{
-    Outbox {
-        bytes,
-        room,
-        tally: Tally::new(),
-    }
-}
 
 impl<P: Storable, K: Storable> Outbox<P, K> {
     // An empty outbox with memory for some bytes, or the want of it. After any sends it holds exactly the messages
@@ -34,36 +20,39 @@ impl<P: Storable, K: Storable> Outbox<P, K> {
     pub fn new(heap: Global, room: usize) -> Result<Outbox<P, K>, AllocError>
         ensures { IfOk result (λ o. Empty room o × HoldsTaken P.Storable.own K.Storable.own o) }
     {
-        let bytes = Vec::with_capacity(heap, room)?;
-        Ok(empty(bytes, room))
+        let bytes = Reserved::new(heap, room)?;
+        Ok(Outbox {
+            bytes,
+            tally: Tally::new(),
+        })
     }
 
     // Whether one more message fits.
     fn fits(&self) -> bool
         ensures { result ≡ fits P.Storable.own K.Storable.own self.now }
     {
-        frame_len::<P, K>() <= self.room - self.bytes.len()
+        frame_len::<P, K>() <= self.bytes.room - self.bytes.written.len()
     }
 
     // How many bytes were written.
     pub fn len(&self) -> usize
         ensures { result ≡ length (bytes_of self.now) }
     {
-        self.bytes.len()
+        self.bytes.written.len()
     }
 
     // The bytes.
     pub fn bytes(&self) -> &[u8]
         ensures { result.now ≡ bytes_of self.now }
     {
-        self.bytes.as_slice()
+        self.bytes.written.as_slice()
     }
 
     // How many bytes there may be.
     pub fn room(&self) -> usize
-        ensures { result ≡ self.now.room }
+        ensures { result ≡ room_of self.now }
     {
-        self.room
+        self.bytes.room
     }
 
     // How many messages were taken, modulo 2^64.
@@ -103,7 +92,7 @@ impl<P: Storable, K: Storable> Link<P, K> for Outbox<P, K> {
             return false;
         }
         let message = Message { id, peer, key };
-        put_frame(&mut self.bytes, &message);
+        self.bytes.put_frame(&message);
         self.tally.add(message);
         true
     }
