@@ -7,4 +7,3 @@ pub mod Wholes
 pub mod Listings
 pub mod Queues
 pub mod Fairs
-pub mod Counts

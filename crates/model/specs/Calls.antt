@@ -1,5 +1,5 @@
 -- What each call of a fetcher but `fetch` answers, and what the fetcher then holds.
-use Rattle.std.specs.Prelude.{ℕ, ◌+◌, ◌-◌, max, Bool, true, false, cond, List, [], ◌∷◌, length, is_some, Some, None, Option, nat_le}
+use Rattle.std.specs.Prelude.{ℕ, ◌-◌, max, Bool, true, false, cond, List, length, count_by, is_some, Some, None, Option, nat_le}
 use Rattle.kinds.specs.declared.ordered.Ordered.{Ghosts as Order}
 use Rattle.score.specs.declared.rating.Rating.{Ghosts as Rate}
 use Rattle.tables.specs.Rows.{lookup}
@@ -205,6 +205,5 @@ is_in true x = is_queued x
 is_in false x = is_sent x
 
 -- how many rows are queued, or out
-unfoldable pub count_in : {K P : Type 0} → Bool → List (KeyRow K P) → ℕ
-count_in queued [] = 0
-count_in queued (r ∷ rs) = cond (is_in queued r.stage) 1 0 + count_in queued rs
+abbrev pub count_in : {K P : Type 0} → Bool → List (KeyRow K P) → ℕ
+count_in queued rows = count_by (λ r. is_in queued r.stage) rows

@@ -31,6 +31,7 @@ pub fn take_id<K: Ordered, P: Ordered, D: DrawSource>(
     ensures next { next.new ≡ next_of (tab_of keys.now.table).rows next.old (D.DrawSource.ahead source.old) }
     ensures words { D.DrawSource.ahead source.new ≡ words_of next.old (D.DrawSource.ahead source.old) }
 {
+    // A match: what the words ahead then are is not shown where a closure takes the word.
     let first = match *next {
         Some(id) => id,
         None => source.word(),

@@ -25,10 +25,7 @@ pub const LIMIT: u64 = 0x7fff_ffff_ffff_ffff;
 fn sooner(wait: Option<u64>, until: u64) -> Option<u64>
     ensures { result ≡ sooner_of wait until }
 {
-    match wait {
-        Some(t) => Some(t.min(until)),
-        None => Some(until),
-    }
+    Some(wait.map_or(until, |least| least.min(until)))
 }
 
 // Sends the first due key that an allowed peer takes, in the order of the queue and of the draw.

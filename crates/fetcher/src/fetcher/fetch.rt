@@ -25,11 +25,8 @@ fn waiter_of<P: Ordered, K: Ordered>(walked: &Walked<P, K>, until: u64) -> Optio
     if walked.sent.is_some() {
         return None;
     }
-    let again = match walked.wait {
-        Some(t) => t,
-        None => if walked.allowed { until } else { LIMIT },
-    };
-    Some(walked.late.min(again))
+    let idle = if walked.allowed { until } else { LIMIT };
+    Some(walked.late.min(walked.wait.unwrap_or(idle)))
 }
 
 // The key that was sent is out there from this time.
@@ -41,18 +38,15 @@ fn set_out<K: Ordered, P: Ordered>(
     ensures table { tab_of keys.new.table ≡ sent_in K.Ordered.own sent time (tab_of keys.old.table) }
     ensures queue { tab_of keys.new.queue ≡ tab_of keys.old.queue }
 {
-    match sent {
-        Some(message) => {
-            let _ = keys.apply(
-                message.key,
-                Event::Sent {
-                    id: message.id,
-                    peer: message.peer,
-                    start: time,
-                },
-            );
-        }
-        None => {}
+    if let Some(Message { id, peer, key }) = sent {
+        let _ = keys.apply(
+            key,
+            Event::Sent {
+                id,
+                peer,
+                start: time,
+            },
+        );
     }
 }
 

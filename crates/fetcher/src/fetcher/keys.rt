@@ -16,12 +16,9 @@ use waiting::Subscribers;
 fn retry_event<K: Ordered, P: Ordered>(row: Option<KeyRow<K, P>>, deadline: u64) -> Event<P>
     ensures { result ≡ retry_at row deadline }
 {
-    match row {
-        Some(row) => match row.stage {
-            Stage::Out { .. } => Event::Returned { deadline },
-            _ => Event::Rejected { deadline },
-        },
-        None => Event::Rejected { deadline },
+    match row.map(|row| row.stage) {
+        Some(Stage::Out { .. }) => Event::Returned { deadline },
+        _ => Event::Rejected { deadline },
     }
 }
 
@@ -58,10 +55,7 @@ impl<P: Ordered, V: Rating, K: Ordered> Fetcher<P, V, K> {
     pub fn has_targets(&self, key: K) -> bool
         ensures { result ≡ has_aim (row_of K.Ordered.own key (fet_of self.now)) }
     {
-        match self.keys.get(key) {
-            Some(row) => row.aimed,
-            None => false,
-        }
+        self.keys.get(key).is_some_and(|row| row.aimed)
     }
 
     // Queues a new key ahead of all retries, due at once. Answers whether the key was new and had room; otherwise
@@ -70,10 +64,7 @@ impl<P: Ordered, V: Rating, K: Ordered> Fetcher<P, V, K> {
         ensures answer { result ≡ ready_answer K.Ordered.own key (fet_of self.old) }
         ensures state { fet_of self.new ≡ ready_step K.Ordered.own key time (fet_of self.old) }
     {
-        if self.keys.get(key).is_some() {
-            return false;
-        }
-        if !self.keys.insert(key, false, time) {
+        if self.keys.get(key).is_some() || !self.keys.insert(key, false, time) {
             return false;
         }
         self.waiter = None;
