@@ -1,6 +1,7 @@
 use Rattle.std.proofs.Common.{Option, sym, ap, ◌∙◌}
 use Rattle.link.specs.declared.words.Message.{Message}
 use Rattle.tables.specs.Rows.{Lawful}
+use Rattle.tables.proofs.Lawfuls.{kind_lawful}
 use Rattle.model.specs.Fet.{Fet}
 use Rattle.model.specs.Fetches.{sent_in}
 use Rattle.model.proofs.Fairs.{sends_first, moves_one}
@@ -11,8 +12,7 @@ pub returns : goal.returns
 returns g c =
     let f = fet_of c.args.self.now in
     let e = c.send_due.ensures in
-    let met = g.met.K.Ordered in
-    let o : Lawful g.K.Ordered.order = record { same = met.same; reflexive = met.reflexive; turned = met.turned; joined = met.joined } in
+    let o : Lawful g.K.Ordered.order = kind_lawful g.met.K.Ord.total g.met.K.Ordered.compares g.met.K.Ordered.same in
     record {
       answer = e.answer;
       words = e.words;
