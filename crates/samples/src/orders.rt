@@ -1,5 +1,5 @@
 // Examples of kinds: how they are ordered, and their forms.
-use kinds::{Bytes32, Digest, Ordered, Pair, PublicKey, Seat, Station, Storable};
+use kinds::{Bytes32, Digest, Pair, PublicKey, Seat, Station, Storable};
 use std::test::Fail;
 
 fn seat(performance: u32, seat: u16) -> Seat {
@@ -8,10 +8,10 @@ fn seat(performance: u32, seat: u16) -> Seat {
 
 #[test]
 fn numbers_go_field_by_field(rt: HostRuntime) {
-    assert!(rt; Station(7).compare(&Station(8)).is_lt());
-    assert!(rt; seat(7, 9).compare(&seat(8, 1)).is_lt());
-    assert!(rt; seat(7, 9).compare(&seat(7, 8)).is_gt());
-    assert!(rt; seat(7, 9).compare(&seat(7, 9)).is_eq());
+    assert!(rt; Station(7).cmp(&Station(8)).is_lt());
+    assert!(rt; seat(7, 9).cmp(&seat(8, 1)).is_lt());
+    assert!(rt; seat(7, 9).cmp(&seat(7, 8)).is_gt());
+    assert!(rt; seat(7, 9).cmp(&seat(7, 9)).is_eq());
 }
 
 #[test]
@@ -24,18 +24,18 @@ fn pairs_go_by_the_first(rt: HostRuntime) {
         first: seat(1, 2),
         second: Station(3),
     };
-    assert!(rt; one.compare(&two).is_lt());
-    assert!(rt; two.compare(&one).is_gt());
+    assert!(rt; one.cmp(&two).is_lt());
+    assert!(rt; two.cmp(&one).is_gt());
 }
 
 #[test]
 fn bytes_go_byte_by_byte(rt: HostRuntime) {
-    let low = Digest(Bytes32::new([1; 32]));
+    let low = Digest::new(Bytes32::new([1; 32]));
     let mut bytes = [1; 32];
     bytes[31] = 2;
-    let high = Digest(Bytes32::new(bytes));
-    assert!(rt; low.compare(&high).is_lt());
-    assert!(rt; high.compare(&low).is_gt());
+    let high = Digest::new(Bytes32::new(bytes));
+    assert!(rt; low.cmp(&high).is_lt());
+    assert!(rt; high.cmp(&low).is_gt());
 }
 
 #[test]
@@ -52,7 +52,7 @@ fn forms_are_big_endian(rt: HostRuntime) -> Result<(), Fail> {
 #[test]
 fn a_key_is_its_own_form(rt: HostRuntime) -> Result<(), Fail> {
     let mut out = Vec::new(rt.alloc());
-    PublicKey(Bytes32::new([7; 32])).put(&mut out)?;
+    PublicKey::new(Bytes32::new([7; 32])).put(&mut out)?;
     assert_eq!(rt; out.as_slice(), &[7u8; 32][..]);
     Ok(())
 }

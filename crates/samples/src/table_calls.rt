@@ -1,7 +1,7 @@
 // The tables on examples.
 use kinds::{Seat, Station};
 use live::{Event, LiveKeys};
-use roster::Participants;
+use roster::{Excluded, Participants};
 use score::{Rating, Score};
 use std::test::Fail;
 use tables::{Only, Table, fits_table};
@@ -49,8 +49,10 @@ fn credit_while_blocked(rt: HostRuntime) -> Result<(), Fail> {
     assert!(rt;
         roster.reconcile(
             &[Station(1), Station(2), Station(3)],
-            Some(Station(1)),
-            &blocked,
+            Excluded {
+                own: Some(Station(1)),
+                blocked: &blocked,
+            },
         )
     );
     roster.record(Station(2), 1_000_000_000, 1_000);
@@ -58,9 +60,20 @@ fn credit_while_blocked(rt: HostRuntime) -> Result<(), Fail> {
     assert_eq!(rt; roster.weight(Station(2)), Some(0));
     assert_eq!(rt; roster.weight(Station(3)), Some(1));
     assert!(rt; blocked.fill(&[]));
-    roster.weigh(Some(Station(1)), &blocked);
+    roster.weigh(Excluded {
+        own: Some(Station(1)),
+        blocked: &blocked,
+    });
     assert_eq!(rt; roster.weight(Station(2)), Some(1_001));
-    assert!(rt; roster.reconcile(&[Station(2), Station(4)], None, &blocked));
+    assert!(rt;
+        roster.reconcile(
+            &[Station(2), Station(4)],
+            Excluded {
+                own: None,
+                blocked: &blocked,
+            },
+        )
+    );
     assert_eq!(rt; roster.weight(Station(2)), Some(1_001));
     assert_eq!(rt; roster.weight(Station(4)), Some(1));
     assert_eq!(rt; roster.weight(Station(1)), None);

@@ -23,7 +23,8 @@ fn is_kept<P: Ordered, V: Rating, K: Ordered>(
     share.weight == 0 || targets.contains(key, row.peer)
 }
 
-// Sets the share of each peer aside that is no target of a key.
+// Sets the share of each peer aside that is no target of a key. By index: the port goes over the allowed peers with their
+// places.
 fn leave_out<P: Ordered, V: Rating, K: Ordered>(
     shares: &mut [Share],
     peers: &[PeerRow<P, V>],

@@ -18,7 +18,7 @@ use roster::{Participants, PeerRow};
 use score::Rating;
 use trackers::Targets;
 
-// The time that stands for none.
+// The time that stands for none: a number by the rules, so the least of all times is a `min`.
 pub const LIMIT: u64 = 0x7fff_ffff_ffff_ffff;
 
 // The sooner of two times.
@@ -106,8 +106,8 @@ pub fn send_first<P: Ordered, V: Rating, K: Ordered, L: Link<P, K>, D: DrawSourc
     walk(
         keys.queue.rows(),
         keys,
-        roster.rows.as_slice(),
-        roster.shares.as_mut_slice(),
+        roster.peers.rows(),
+        roster.shares.rows.as_mut_slice(),
         targets,
         link,
         source,

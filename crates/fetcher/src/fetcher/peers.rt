@@ -8,7 +8,7 @@ ghost use Rattle.fetcher.specs.View.{fet_of};
 use crate::fetcher::Fetcher;
 use kinds::Ordered;
 use live::LiveKeys;
-use roster::Participants;
+use roster::{Excluded, Participants};
 use score::Rating;
 use tables::{Only, Table};
 use trackers::Targets;
@@ -47,7 +47,11 @@ impl<P: Ordered, V: Rating, K: Ordered> Fetcher<P, V, K> {
         ensures answer { result ≡ reconcile_answer list.now (fet_of self.old) }
         ensures state { fet_of self.new ≡ reconcile_step P.Ordered.own V.Rating list.now (fet_of self.old) }
     {
-        if !self.roster.reconcile(list, self.own, &self.blocked) {
+        let excluded = Excluded {
+            own: self.own,
+            blocked: &self.blocked,
+        };
+        if !self.roster.reconcile(list, excluded) {
             return false;
         }
         self.waiter = None;
@@ -63,7 +67,10 @@ impl<P: Ordered, V: Rating, K: Ordered> Fetcher<P, V, K> {
         if !self.blocked.fill(list) {
             return false;
         }
-        self.roster.weigh(self.own, &self.blocked);
+        self.roster.weigh(Excluded {
+            own: self.own,
+            blocked: &self.blocked,
+        });
         self.waiter = None;
         true
     }
