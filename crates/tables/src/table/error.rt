@@ -40,7 +40,7 @@ impl Error for TableError {}
 impl From<AllocError> for TableError {
     ghost from_gives = { λ _ e. e ≡ Memory };
 
-    fn from(_e: AllocError) -> TableError {
-        TableError::Memory
+    fn from(_e: AllocError) -> Self {
+        Self::Memory
     }
 }

@@ -49,7 +49,7 @@ impl<K: Ordered> Table<Only<K>> {
         if self.most < list.len() {
             return false;
         }
-        self.rows.clear();
+        self.clear();
         for key in list {
             self.rows.push_reserved(Only { key: *key });
         }

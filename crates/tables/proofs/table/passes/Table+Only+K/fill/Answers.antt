@@ -8,9 +8,8 @@ loop-key-preserved g c = (
   ap (λ t. t ++ only_rows (drop (c.loop-key.key-index + 1) c.args.list.now)) c.push_reserved.ensures.items
       ∙ made_over only_rows (vec_items c.loop-key.self.rows) (only_rows c.args.list.now) c.args.list.now c.loop-key.key-index c.key-item.result (only c.key-item.result) (omega arith) c.key-item.is (only_more _ _) c.loop-key.invariant.0,
   omega arith,
-  omega arith,
+  c.loop-key.invariant.2,
   c.loop-key.invariant.3,
-  c.loop-key.invariant.4,
 )
 
 pub returns-clause-table : goal.returns-clause-table
