@@ -16,6 +16,10 @@ abbrev pub Refused : ℕ → ℕ → TableError → Type 0
 Refused most bound Rows = Outside most bound
 Refused most bound Memory = (0 < most) × (most ≤ bound)
 
+-- a new value of which the view is so, or why there is none
+abbrev pub MadeAs : {T V : Type 0} → (T → V) → V → ℕ → ℕ → Result T TableError → Type 0
+MadeAs view new bound most (Ok t) = (0 < most) × (most ≤ bound) × (view t ≡ new)
+MadeAs view new bound most (Err e) = Refused most bound e
+
 abbrev pub MadeSubscribers : {K S : Type 0} → ℕ → ℕ → Result (Subscribers K S) TableError → Type 0
-MadeSubscribers engine most (Ok t) = (0 < most) × (most ≤ most_pairs) × (tab_of t.table ≡ empty engine most)
-MadeSubscribers engine most (Err e) = Refused most most_pairs e
+MadeSubscribers engine most r = MadeAs (λ t. tab_of t.table) (empty engine most) most_pairs most r
