@@ -28,7 +28,7 @@ impl<K: Ordered, P: Ordered> Targets<K, P> {
     pub fn count_new(&self, key: K, peers: &[P]) -> usize
         ensures { result ≡ new_of P.Ordered.order (λ x. is_some (target_row K.Ordered.own P.Ordered.own key x (tab_of self.now.table).rows)) peers.now }
     {
-        count_new(peers, |peer| self.contains(key, peer))
+        count_new(peers, |peer| self.contains(key, *peer))
     }
 
     // Adds a peer to the targets of a key.

@@ -1,5 +1,6 @@
 // A key with a subscriber that waits for it or belongs to its running delivery.
 ghost use Rattle.std.specs.Prelude.{◌≡◌, ◌≤◌, length, Bool as Flag};
+ghost use Rattle.waiting.specs.Calls.{Gives};
 ghost use Rattle.waiting.specs.Groups.{bound_of, below, up_to, rows_of, any_waits, nth_delivered};
 
 use kinds::{Ordered, Pair};
@@ -29,7 +30,7 @@ impl<K: Ordered, S: Ordered> Row for WaitRow<K, S> {
 #[tactic(auto, using(crate::proofs::Steps::bound_start, crate::proofs::Steps::bound_up, crate::proofs::Steps::bound_down, crate::proofs::Steps::bound_done))]
 fn bound<R, F: Fn(&R) -> bool>(rows: &[R], comes_before: F) -> usize
     requires { F.IsAlwaysCallable comes_before }
-    ensures value { (before : R → Flag) → ((x : _) (r : Flag) → F.post comes_before x r → r ≡ before x.now) → result ≡ bound_of before rows.now }
+    ensures value { (before : R → Flag) → Gives F.Fn before comes_before → result ≡ bound_of before rows.now }
     ensures within { result ≤ length rows.now }
 {
     let mut low = 0;

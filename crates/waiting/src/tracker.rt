@@ -1,6 +1,7 @@
 // The subscribers' tracker: who waits for which key, and who belongs to its running delivery.
 ghost use Rattle.std.specs.Prelude.{◌≡◌, is_some, Option as Maybe};
 ghost use Rattle.tables.specs.Tables.{tab_of, sweep_by};
+ghost use Rattle.waiting.specs.Calls.{Gives};
 ghost use Rattle.waiting.specs.Waits.{wait_row, waits_of, wait_one, wait_all, only, begun, ended, undone, retired, retains};
 ghost use Rattle.waiting.specs.Groups.{rows_of, waited, nth_delivered};
 ghost use Rattle.waiting.specs.News.{new_of};
@@ -44,7 +45,7 @@ impl<K: Ordered, S: Ordered> Subscribers<K, S> {
     pub fn count_new(&self, key: K, subscribers: &[S]) -> usize
         ensures { result ≡ new_of S.Ordered.order (λ x. is_some (wait_row K.Ordered.own S.Ordered.own key x (tab_of self.now.table).rows)) subscribers.now }
     {
-        count_new(subscribers, |s| self.row(key, s).is_some())
+        count_new(subscribers, |s| self.row(key, *s).is_some())
     }
 
     // A subscriber waits for a key; a delivered mark that its pair has stays.
@@ -94,17 +95,17 @@ impl<K: Ordered, S: Ordered> Subscribers<K, S> {
     }
 
     // Keeps, changes or drops each row of a key.
-    fn sweep_key<F: Fn(WaitRow<K, S>) -> Option<WaitRow<K, S>>>(&mut self, key: K, change: F)
+    fn sweep_key<F: Fn(&WaitRow<K, S>) -> Option<WaitRow<K, S>>>(&mut self, key: K, change: F)
         requires { F.IsAlwaysCallable change }
-        ensures { (f : _ → Maybe _) → ((r : _) (o : Maybe _) → F.post change r o → o ≡ f r) → tab_of self.new.table ≡ sweep_by (only K.Ordered.own key f) (tab_of self.old.table) }
+        ensures { (f : _ → Maybe _) → Gives F.Fn f change → tab_of self.new.table ≡ sweep_by (only K.Ordered.own key f) (tab_of self.old.table) }
     {
         self.table.sweep(
             |row|
                 requires { F.IsAlwaysCallable change }
-                ensures { (f : _ → Maybe _) → ((r : _) (o : Maybe _) → F.post change r o → o ≡ f r) → result ≡ only K.Ordered.own key f row.now }
+                ensures { (f : _ → Maybe _) → Gives F.Fn f change → result ≡ only K.Ordered.own key f row.now }
             {
                 if row.pair.first == key {
-                    change(*row)
+                    change(row)
                 } else {
                     Some(*row)
                 }
@@ -120,7 +121,7 @@ impl<K: Ordered, S: Ordered> Subscribers<K, S> {
             key,
             |row| Some(WaitRow {
                 delivered: row.waits,
-                ..row
+                ..*row
             }),
         );
     }
@@ -129,7 +130,7 @@ impl<K: Ordered, S: Ordered> Subscribers<K, S> {
     pub fn remove_delivered(&mut self, key: K)
         ensures { tab_of self.new.table ≡ sweep_by (only K.Ordered.own key ended) (tab_of self.old.table) }
     {
-        self.sweep_key(key, |row| if row.delivered { None } else { Some(row) });
+        self.sweep_key(key, |row| if row.delivered { None } else { Some(*row) });
     }
 
     // Undoes a delivery: the delivered marks go, and with them those that left.
@@ -140,7 +141,7 @@ impl<K: Ordered, S: Ordered> Subscribers<K, S> {
             key,
             |row| row.waits.then_some(WaitRow {
                 delivered: false,
-                ..row
+                ..*row
             }),
         );
     }
