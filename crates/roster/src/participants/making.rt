@@ -21,7 +21,7 @@ impl<P: Ordered, V: Rating> Participants<P, V> {
         ensures { Made engine most result }
     {
         let peers = Table::new(heap, engine, most, MOST_PEERS)?;
-        let shares = Shares::new(heap, most).map_err(|_| TableError::Memory)?;
+        let shares = Shares::new(heap, most)?;
         let spare = Table::new(heap, engine, most, MOST_PEERS)?;
         Ok(Participants {
             peers,
