@@ -1,7 +1,6 @@
 // Times the calls of a script: each line counts with its quickest of five rounds.
 use crate::fault::Fault;
 use crate::session::Session;
-use crate::watch::Watch;
 
 const ROUNDS: u8 = 5;
 
@@ -19,54 +18,57 @@ const CALLS: [&str; 11] = [
     "retain",
 ];
 
+// A line with the time of its quickest round so far, in nanoseconds.
+#[derive(Clone, Copy)]
+struct Timed<'a> {
+    line: &'a str,
+    quickest: u64,
+}
+
 // Makes the calls of the script once, and keeps the quickest time of each line. Calls that are not there yet are passed
 // over.
-fn one_round(rt: &HostRuntime, text: &str, quickest: &mut Vec<u64>) -> anyhow::Result<()> {
-    let heap = rt.alloc();
-    let mut watch = Watch::new(rt);
-    let mut session = Session::new(true);
-    for (i, line) in text.lines().enumerate() {
-        let mut out = String::new(heap);
-        match session.line(heap, &mut watch, line, &mut out) {
-            Ok(()) => {}
-            Err(Fault::NotYet) => {}
-            Err(fault) => return Err(fault.at(i as u64)),
+fn one_round(rt: &HostRuntime, lines: &mut [Timed<'_>]) -> anyhow::Result<()> {
+    let mut session = Session::new(rt, true);
+    for (i, timed) in lines.iter_mut().enumerate() {
+        match session.line(timed.line) {
+            Ok(_) | Err(Fault::NotYet) => {}
+            Err(fault) => return Err(fault.at(i).into()),
         }
-        let spent = watch.take();
-        if i < quickest.len() {
-            let least = quickest[i];
-            quickest[i] = least.min(spent);
-        } else {
-            quickest.push(spent)?;
-        }
+        timed.quickest = timed.quickest.min(session.spent());
     }
     Ok(())
 }
 
 // Prints the call, how often it came, and the mean of its times in nanoseconds.
-fn print_call(rt: &HostRuntime, text: &str, quickest: &[u64], call: &str) -> anyhow::Result<()> {
-    let mut count: u64 = 0;
-    let mut total: u64 = 0;
-    for (line, spent) in text.lines().zip(quickest.iter()) {
-        if line.split_whitespace().next() == Some(call) && *spent > 0 {
-            count = count.saturating_add(1);
-            total = total.saturating_add(*spent);
-        }
-    }
-    if count > 0 {
-        let mean = total / count;
+fn print_call(rt: &HostRuntime, lines: &[Timed<'_>], call: &str) -> anyhow::Result<()> {
+    let (count, total) = lines
+        .iter()
+        .filter(|timed| timed.line.split_whitespace().next() == Some(call) && timed.quickest > 0)
+        .fold((0u64, 0u64), |(count, total), timed| {
+            (
+                count.saturating_add(1),
+                total.saturating_add(timed.quickest),
+            )
+        });
+    if let Some(mean) = total.checked_div(count) {
         println!(rt; "{call} {count} {mean}")?;
     }
     Ok(())
 }
 
 pub(crate) fn bench(rt: &HostRuntime, text: &str) -> anyhow::Result<()> {
-    let mut quickest = Vec::new(rt.alloc());
+    let mut lines: Vec<Timed<'_>> = text
+        .lines()
+        .map(|line| Timed {
+            line,
+            quickest: u64::MAX,
+        })
+        .collect(rt.alloc())?;
     for _ in 0..ROUNDS {
-        one_round(rt, text, &mut quickest)?;
+        one_round(rt, lines.as_mut_slice())?;
     }
     for call in CALLS {
-        print_call(rt, text, quickest.as_slice(), call)?;
+        print_call(rt, lines.as_slice(), call)?;
     }
     Ok(())
 }

@@ -5,9 +5,9 @@ mod bench;
 mod fault;
 mod house;
 mod make;
-mod rated;
 mod script;
 mod session;
+mod show;
 mod source;
 mod term;
 mod watch;
@@ -15,21 +15,16 @@ mod wired;
 
 use crate::bench::bench;
 use crate::session::Session;
-use crate::watch::Watch;
 use std::{env, fs, io};
 
-fn print_help(rt: &HostRuntime) -> io::Result<()> {
-    rt.println("rehearse [--answers | --bench] [SCRIPT]")?;
-    rt.println(
-        "Reads a script of calls from the file SCRIPT, or from standard input, makes them,",
-    )?;
-    rt.println("and prints after each what it answered and what every table then holds.")?;
-    rt.println("  --answers   print only the lines and their answers")?;
-    rt.println(
-        "  --bench     print only how often each call came, and its mean time in nanoseconds",
-    )?;
-    rt.println("  --help      print this")
-}
+const HELP: &str = "\
+rehearse [--answers | --bench] [SCRIPT]
+Reads a script of calls from the file SCRIPT, or from standard input, makes them,
+and prints after each what it answered and what every table then holds.
+  --answers   print only the lines and their answers
+  --bench     print only how often each call came, and its mean time in nanoseconds
+  --help      print this
+";
 
 #[derive(Drop)]
 struct Options {
@@ -66,17 +61,12 @@ fn read_script(rt: &HostRuntime, path: Option<String>) -> io::Result<String> {
 
 // Obeys each line, and prints its block.
 fn rehearse(rt: &HostRuntime, text: &str, answers: bool) -> anyhow::Result<()> {
-    let heap = rt.alloc();
-    let mut watch = Watch::new(rt);
-    let mut session = Session::new(answers);
-    let mut number: u64 = 0;
-    for line in text.lines() {
-        number = number.wrapping_add(1);
-        let mut out = String::new(heap);
-        match session.line(heap, &mut watch, line, &mut out) {
-            Ok(()) => rt.print(out.as_str())?,
-            Err(fault) => return Err(fault.at(number)),
-        }
+    let mut session = Session::new(rt, answers);
+    for (i, line) in text.lines().enumerate() {
+        let block = session
+            .line(line)
+            .map_err(|fault| fault.at(i.wrapping_add(1)))?;
+        rt.print(block)?;
     }
     Ok(())
 }
@@ -84,7 +74,7 @@ fn rehearse(rt: &HostRuntime, text: &str, answers: bool) -> anyhow::Result<()> {
 fn run(rt: &HostRuntime) -> anyhow::Result<()> {
     let options = read_options(rt)?;
     if options.help {
-        print_help(rt)?;
+        rt.print(HELP)?;
         return Ok(());
     }
     let text = read_script(rt, options.path)?;

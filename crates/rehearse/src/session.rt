@@ -1,144 +1,163 @@
 // A script as it is carried out: the house that is open, if any.
-use crate::fault::Fault;
+use crate::fault::{CallError, Fault};
 use crate::house::House;
-use crate::make::{Level, Make, Rate};
-use crate::rated::Rated;
-use crate::script::{known, obey, show_words, words_of};
-use crate::source::Source;
-use crate::term::show_number;
+use crate::make::{Make, Rate};
+use crate::script::Request;
+use crate::show::Show;
 use crate::watch::Watch;
-use crate::wired::Wired;
-use kinds::{PublicKey, Station};
-use score::{Flat, Score};
+use crate::wired::{KeyLink, StationLink, Wired};
+use score::{Flat, Rating, Score};
 use std::alloc::{AllocError, Global};
+use std::fmt;
+use std::fmt::Write;
 
 // A house of each level.
 #[derive(Drop)]
 enum Hall {
-    Closed,
-    NumberedFlat(House<Station, Flat>),
-    Numbered(House<Station, Score>),
-    KeyedFlat(House<PublicKey, Flat>),
-    Keyed(House<PublicKey, Score>),
+    NumberedFlat(House<StationLink, Flat>),
+    Numbered(House<StationLink, Score>),
+    KeyedFlat(House<KeyLink, Flat>),
+    Keyed(House<KeyLink, Score>),
 }
 
-#[derive(Drop)]
-pub(crate) struct Session {
-    answers: bool,
-    hall: Hall,
-}
+impl Hall {
+    // Stations by number or by key, and flat or by score, as the line says.
+    fn open(heap: Global, make: Make<'_>) -> Result<Hall, Fault> {
+        match (make.by_key(), make.rate()) {
+            (false, Rate::Flat) => Ok(Hall::NumberedFlat(House::new(heap, make)?)),
+            (false, Rate::Score) => Ok(Hall::Numbered(House::new(heap, make)?)),
+            (true, Rate::Flat) => Ok(Hall::KeyedFlat(House::new(heap, make)?)),
+            (true, Rate::Score) => Ok(Hall::Keyed(House::new(heap, make)?)),
+        }
+    }
 
-// Stations by number unless the level is circuit or festival; flat for a single house unless the line says otherwise.
-fn open_hall(heap: Global, make: &Make<'_>, source: Source) -> Result<Hall, Fault> {
-    let keyed = matches!(make.level, Some(Level::Circuit) | Some(Level::Festival));
-    let flat = match make.rating {
-        Some(Rate::Flat) => true,
-        Some(Rate::Score) => false,
-        None => matches!(make.level, Some(Level::SingleHouse)),
-    };
-    match (keyed, flat) {
-        (false, true) => Ok(Hall::NumberedFlat(House::new(heap, make, source)?)),
-        (false, false) => Ok(Hall::Numbered(House::new(heap, make, source)?)),
-        (true, true) => Ok(Hall::KeyedFlat(House::new(heap, make, source)?)),
-        (true, false) => Ok(Hall::Keyed(House::new(heap, make, source)?)),
+    // Obeys a call, and writes its answer. Each arm has a house of another type, and a closure takes only one.
+    fn obey(
+        &mut self,
+        watch: &mut Watch<'_>,
+        request: Request<'_>,
+        out: &mut String,
+    ) -> Result<(), Fault> {
+        match self {
+            Hall::NumberedFlat(house) => answer(watch, house, request, out),
+            Hall::Numbered(house) => answer(watch, house, request, out),
+            Hall::KeyedFlat(house) => answer(watch, house, request, out),
+            Hall::Keyed(house) => answer(watch, house, request, out),
+        }
     }
 }
 
-// Obeys a line, and shows its answer.
-fn answer<P: Wired, R: Rated>(
-    heap: Global,
+impl fmt::Display for Hall {
+    fn fmt<W: fmt::Write>(&self, f: &mut fmt::Formatter<W>) -> fmt::Result {
+        match self {
+            Hall::NumberedFlat(house) => house.fmt(f),
+            Hall::Numbered(house) => house.fmt(f),
+            Hall::KeyedFlat(house) => house.fmt(f),
+            Hall::Keyed(house) => house.fmt(f),
+        }
+    }
+}
+
+// Obeys a call, and writes its answer.
+fn answer<L: Wired, R: Rating>(
     watch: &mut Watch<'_>,
-    house: &mut House<P, R>,
-    words: &[&str],
+    house: &mut House<L, R>,
+    request: Request<'_>,
     out: &mut String,
 ) -> Result<(), Fault> {
-    let [name, rest @ ..] = words else {
-        return Ok(());
-    };
-    let answer = obey(heap, watch, house, *name, rest)?;
-    show_words(words, out)?;
-    answer.show(heap, out)?;
+    match request.obey(watch, house) {
+        Ok(answer) => writeln!(out, "= {answer}")?,
+        Err(CallError::Refused(refusal)) => writeln!(out, "= {refusal}")?,
+        Err(CallError::Fault(fault)) => return Err(fault),
+    }
     Ok(())
 }
 
-impl Session {
-    pub(crate) fn new(answers: bool) -> Session {
+// The words of a line: what stands before a `#`, parted by spaces.
+fn words_of<'a>(heap: Global, line: &'a str) -> Result<Vec<&'a str>, AllocError> {
+    let text = line.split_once('#').map_or(line, |(before, _)| before);
+    text.split_whitespace().collect(heap)
+}
+
+// Writes the words joined again by single spaces.
+fn write_words(words: &[&str], out: &mut String) -> Result<(), AllocError> {
+    out.push_str(">")?;
+    for word in words {
+        write!(out, " {word}")?;
+    }
+    out.push_str("\n")
+}
+
+#[derive(Drop)]
+pub(crate) struct Session<'a> {
+    heap: Global,
+    watch: Watch<'a>,
+    answers: bool,
+    hall: Option<Hall>,
+}
+
+impl<'a> Session<'a> {
+    pub(crate) fn new(rt: &'a HostRuntime, answers: bool) -> Session<'a> {
         Session {
+            heap: rt.alloc(),
+            watch: Watch::new(rt),
             answers,
-            hall: Hall::Closed,
+            hall: None,
         }
     }
 
+    // The nanoseconds of the last line's call.
+    pub(crate) fn spent(&mut self) -> u64 {
+        self.watch.take()
+    }
+
     // Opens a new house; a refused one leaves the former in place.
-    fn make(&mut self, heap: Global, words: &[&str], out: &mut String) -> Result<(), Fault> {
-        let mut make = Make::read(heap, words)?;
-        make.show(heap, out)?;
-        if let Some(number) = make.refusal() {
-            out.push_str("= refused ")?;
-            show_number(heap, u64::from(number), out)?;
-            out.push_str("\n")?;
+    fn make(&mut self, words: &[&str], out: &mut String) -> Result<(), Fault> {
+        let make = Make::read(self.heap, words)?;
+        writeln!(out, "> {make}")?;
+        if let Err(refusal) = make.judge() {
+            writeln!(out, "= {refusal}")?;
             return Ok(());
         }
-        let Some(words) = make.source.take() else {
-            return Err(Fault::Expected("source="));
-        };
-        self.hall = open_hall(heap, &make, Source::new(words))?;
+        self.hall = Some(Hall::open(self.heap, make)?);
         out.push_str("= done\n")?;
         Ok(())
     }
 
-    fn obey(
-        &mut self,
-        heap: Global,
-        watch: &mut Watch<'_>,
-        words: &[&str],
-        out: &mut String,
-    ) -> Result<(), Fault> {
+    fn obey(&mut self, request: Request<'_>, out: &mut String) -> Result<(), Fault> {
         match &mut self.hall {
-            Hall::Closed => {
-                show_words(words, out)?;
-                out.push_str("= no engine\n")?;
-                Ok(())
-            }
-            Hall::NumberedFlat(house) => answer(heap, watch, house, words, out),
-            Hall::Numbered(house) => answer(heap, watch, house, words, out),
-            Hall::KeyedFlat(house) => answer(heap, watch, house, words, out),
-            Hall::Keyed(house) => answer(heap, watch, house, words, out),
+            Some(hall) => hall.obey(&mut self.watch, request, out),
+            None => Ok(out.push_str("= no engine\n")?),
         }
     }
 
     // What every table then holds.
-    fn show(&self, heap: Global, out: &mut String) -> Result<(), AllocError> {
-        match &self.hall {
-            Hall::Closed => {}
-            Hall::NumberedFlat(house) => house.show(heap, out)?,
-            Hall::Numbered(house) => house.show(heap, out)?,
-            Hall::KeyedFlat(house) => house.show(heap, out)?,
-            Hall::Keyed(house) => house.show(heap, out)?,
+    fn show(&self, out: &mut String) -> Result<(), AllocError> {
+        if let Some(hall) = &self.hall {
+            write!(out, "{hall}")?;
         }
         out.push_str("\n")
     }
 
-    // One line of the script; an empty one does nothing.
-    pub(crate) fn line(
-        &mut self,
-        heap: Global,
-        watch: &mut Watch<'_>,
-        line: &str,
-        out: &mut String,
-    ) -> Result<(), Fault> {
-        let words = words_of(heap, line)?;
+    // The block of one line of the script; an empty line does nothing.
+    pub(crate) fn line(&mut self, line: &str) -> Result<String, Fault> {
+        let mut out = String::new(self.heap);
+        let words = words_of(self.heap, line)?;
         match words.as_slice() {
-            [] => return Ok(()),
-            ["make", rest @ ..] => self.make(heap, rest, out)?,
-            [name, ..] => {
-                known(*name)?;
-                self.obey(heap, watch, words.as_slice(), out)?;
+            [] => return Ok(out),
+            ["make", rest @ ..] => self.make(rest, &mut out)?,
+            [name, rest @ ..] => {
+                let request = Request {
+                    call: name.parse()?,
+                    words: rest,
+                };
+                write_words(words.as_slice(), &mut out)?;
+                self.obey(request, &mut out)?;
             }
         }
         if !self.answers {
-            self.show(heap, out)?;
+            self.show(&mut out)?;
         }
-        Ok(())
+        Ok(out)
     }
 }

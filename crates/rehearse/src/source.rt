@@ -2,14 +2,39 @@
 ghost use Rattle.std.specs.Prelude.{◌≡◌};
 ghost use Rattle.std.proofs.Common.{rules};
 
-use crate::make::Words;
 use draw::{DrawSource, Supplied, Xorshift};
+use std::fmt;
+
+// The words of a source, as a line gives them: a list, or the seed of a generator.
+#[derive(Drop)]
+pub(crate) enum Words {
+    List(Vec<u64>),
+    Xorshift(u64),
+}
+
+impl fmt::Display for Words {
+    fn fmt<W: fmt::Write>(&self, f: &mut fmt::Formatter<W>) -> fmt::Result {
+        match self {
+            Words::List(words) => {
+                f.write_str("list:")?;
+                f.write_joined(words.iter(), ",")
+            }
+            Words::Xorshift(seed) => write!(f, "xorshift:{seed}"),
+        }
+    }
+}
 
 // A source that counts its words.
 #[derive(Drop)]
 pub(crate) struct Counted<D> {
     words: D,
     taken: u64,
+}
+
+impl<D: DrawSource> Counted<D> {
+    fn new(words: D) -> Counted<D> {
+        Counted { words, taken: 0 }
+    }
 }
 
 impl<D: DrawSource> DrawSource for Counted<D> {
@@ -23,26 +48,24 @@ impl<D: DrawSource> DrawSource for Counted<D> {
     }
 }
 
+// Kept as two types of sources: one type over both needs an arm for each in its words and in its row of words ahead, and
+// so is no plainer.
 #[derive(Drop)]
 pub(crate) enum Source {
     List(Counted<Supplied>),
     Xorshift(Counted<Xorshift>),
 }
 
-impl Source {
-    pub(crate) fn new(words: Words) -> Source {
+impl From<Words> for Source {
+    fn from(words: Words) -> Source {
         match words {
-            Words::List(words) => Source::List(Counted {
-                words: Supplied::new(words),
-                taken: 0,
-            }),
-            Words::Xorshift(seed) => Source::Xorshift(Counted {
-                words: Xorshift::new(seed),
-                taken: 0,
-            }),
+            Words::List(words) => Source::List(Counted::new(Supplied::new(words))),
+            Words::Xorshift(seed) => Source::Xorshift(Counted::new(Xorshift::new(seed))),
         }
     }
+}
 
+impl Source {
     pub(crate) fn taken(&self) -> u64 {
         match self {
             Source::List(s) => s.taken,

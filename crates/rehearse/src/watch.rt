@@ -13,14 +13,19 @@ impl<'a> Watch<'a> {
         Watch { rt, spent: 0 }
     }
 
-    pub(crate) fn start(&self) -> Option<Instant> {
-        Instant::now(self.rt).ok()
+    // Makes a call, and keeps the nanoseconds that it took.
+    pub(crate) fn time<T: Drop, F: FnOnce() -> T>(&mut self, call: F) -> T
+        requires { F.IsAlwaysCallable call }
+    {
+        let began = Instant::now(self.rt);
+        let answer = call();
+        if let Ok(began) = began {
+            self.keep(began);
+        }
+        answer
     }
 
-    pub(crate) fn stop(&mut self, began: Option<Instant>) {
-        let Some(began) = began else {
-            return;
-        };
+    fn keep(&mut self, began: Instant) {
         if let Ok(time) = began.elapsed(self.rt) {
             self.spent = u64::try_from(time.as_nanos()).unwrap_or(u64::MAX);
         }
@@ -28,8 +33,6 @@ impl<'a> Watch<'a> {
 
     // The nanoseconds of the last call, once.
     pub(crate) fn take(&mut self) -> u64 {
-        let spent = self.spent;
-        self.spent = 0;
-        spent
+        std::mem::take(&mut self.spent)
     }
 }

@@ -1,10 +1,13 @@
 // The links that a script can choose, for each kind of peer.
 use crate::fault::Fault;
 use crate::make::Wire;
-use crate::term::{Term, show_number};
-use kinds::{Digest, Ordered, PublicKey, Seat, Station};
+use crate::show::{Hex, Show, Shown};
+use crate::term::Term;
+use kinds::{Digest, Ordered, PublicKey, Seat, Station, Storable};
 use link::{Lane, Lanes, Link, Message, Outbox, Pass};
-use std::alloc::{AllocError, Global};
+use std::alloc::Global;
+use std::collections::BTreeSet;
+use std::fmt;
 
 // What a link says to a message by hand.
 #[derive(Clone, Copy)]
@@ -14,33 +17,43 @@ pub(crate) enum Reply {
     Wait(u64),
 }
 
-// A peer with its kind of keys and its links.
-pub(crate) trait Wired: Term {
+impl fmt::Display for Reply {
+    fn fmt<W: fmt::Write>(&self, f: &mut fmt::Formatter<W>) -> fmt::Result {
+        match self {
+            Reply::Accepted => f.write_str("accepted"),
+            Reply::Closed => f.write_str("closed"),
+            Reply::Wait(until) => write!(f, "wait {until}"),
+        }
+    }
+}
+
+// A link of a script, with its kinds of peers and keys.
+pub(crate) trait Wired: Show + Drop {
+    type Peer: Term;
+
     type Key: Term;
 
-    type Link: Drop;
-
-    fn open(heap: Global, wire: Wire) -> Result<Self::Link, Fault>;
+    fn open(heap: Global, wire: Wire) -> Result<Self, Fault>;
 
     // The time until which a peer is to wait, if it is.
-    fn check(link: &Self::Link, peer: Self, time: u64) -> Option<u64>;
+    fn wait(&self, peer: Self::Peer, time: u64) -> Option<u64>;
 
     // Checks, and sends under the pass.
-    fn send(link: &mut Self::Link, time: u64, id: u64, peer: Self, key: Self::Key) -> Reply;
+    fn post(&mut self, time: u64, message: Message<Self::Peer, Self::Key>) -> Reply;
 
-    // The owner sets a lane. False for what is no lane.
-    fn set_lane(link: &mut Self::Link, station: u32, lane: Lane) -> bool;
-
-    fn show_link(link: &Self::Link, heap: Global, out: &mut String) -> Result<(), AllocError>;
+    // The owner sets the lane of a station.
+    fn set_lane(&mut self, station: Station, lane: Lane) -> Result<(), Fault>;
 }
+
+// What was expected where there is no such lane.
+const A_LANE: Fault = Fault::Expected(
+    "a lane link, a station from 0 to 255, and a time below 2^63",
+);
 
 // The time that a check answers. A pass that is not sent under is taken apart.
 fn wait_of<P: Ordered, K: Ordered, L: Link<P, K>>(link: &L, peer: P, time: u64) -> Option<u64> {
     match link.check(peer, time) {
-        Ok(pass) => {
-            let Pass { peer: _, time: _ } = pass;
-            None
-        }
+        Ok(Pass { peer: _, time: _ }) => None,
         Err(until) => Some(until),
     }
 }
@@ -48,12 +61,10 @@ fn wait_of<P: Ordered, K: Ordered, L: Link<P, K>>(link: &L, peer: P, time: u64) 
 fn send_over<P: Ordered, K: Ordered, L: Link<P, K>>(
     link: &mut L,
     time: u64,
-    id: u64,
-    peer: P,
-    key: K,
+    message: Message<P, K>,
 ) -> Reply {
-    match link.check(peer, time) {
-        Ok(pass) => if link.send(pass, id, key) {
+    match link.check(message.peer, time) {
+        Ok(pass) => if link.send(pass, message.id, message.key) {
             Reply::Accepted
         } else {
             Reply::Closed
@@ -62,154 +73,178 @@ fn send_over<P: Ordered, K: Ordered, L: Link<P, K>>(
     }
 }
 
-fn show_tally<P: Term, K: Term>(
-    heap: Global,
+// How many messages a link took, and the latest of them.
+#[derive(Clone, Copy)]
+struct Taken<P, K> {
     count: u64,
     latest: Option<Message<P, K>>,
-    out: &mut String,
-) -> Result<(), AllocError> {
-    out.push_str("link count=")?;
-    show_number(heap, count, out)?;
-    out.push_str(" latest=")?;
-    let Some(message) = latest else {
-        return out.push_str("-");
-    };
-    show_number(heap, message.id, out)?;
-    out.push_str(",")?;
-    message.peer.show(heap, out)?;
-    out.push_str(",")?;
-    message.key.show(heap, out)
 }
 
-fn show_bytes(heap: Global, bytes: &[u8], out: &mut String) -> Result<(), AllocError> {
-    out.push_str(" outbox=")?;
-    show_number(heap, bytes.len() as u64, out)?;
-    out.push_str(":")?;
-    for b in bytes {
-        let text = format!(in heap; "{b:02x}")?;
-        out.push_str(text.as_str())?;
+impl<P: Show, K: Show> fmt::Display for Taken<P, K> {
+    fn fmt<W: fmt::Write>(&self, f: &mut fmt::Formatter<W>) -> fmt::Result {
+        write!(f, "link count={} latest=", self.count)?;
+        match &self.latest {
+            Some(message) => write!(
+                f,
+                "{},{},{}",
+                message.id,
+                Shown(&message.peer),
+                Shown(&message.key),
+            ),
+            None => f.write_str("-"),
+        }
     }
-    out.push_str("\n")
+}
+
+// The lane of a station.
+#[derive(Clone, Copy)]
+struct LaneAt {
+    station: u32,
+    lane: Lane,
+}
+
+impl fmt::Display for LaneAt {
+    fn fmt<W: fmt::Write>(&self, f: &mut fmt::Formatter<W>) -> fmt::Result {
+        write!(f, "{}:{}", self.station, Shown(&self.lane))
+    }
 }
 
 // The lanes, and which of them were ever sent on or set.
 #[derive(Drop)]
 pub(crate) struct LaneLink {
     lanes: Lanes<Seat>,
-    touched: Vec<u32>,
+    touched: BTreeSet<u32>,
 }
 
 impl LaneLink {
+    fn open(heap: Global, spacing: u64) -> Result<LaneLink, Fault> {
+        match Lanes::new(spacing) {
+            Ok(lanes) => Ok(LaneLink {
+                lanes,
+                touched: BTreeSet::new(heap),
+            }),
+            Err(_) => Err(Fault::Expected("a spacing of at most an hour")),
+        }
+    }
+
+    fn at(&self, station: u32) -> LaneAt {
+        LaneAt {
+            station,
+            lane: self.lanes.lane(Station(station)),
+        }
+    }
+
     // Notes a station; without memory it is only not shown.
-    fn touch(&mut self, station: u32) {
-        if !self.touched.contains(&station) {
-            let _ = self.touched.push(station);
-        }
+    fn touch(&mut self, station: Station) {
+        let _ = self.touched.insert(station.0);
     }
 
-    fn show(&self, heap: Global, out: &mut String) -> Result<(), AllocError> {
-        show_tally(heap, self.lanes.count(), self.lanes.latest(), out)?;
-        out.push_str(" lanes=")?;
+    fn send(&mut self, time: u64, message: Message<Station, Seat>) -> Reply {
+        let reply = send_over(&mut self.lanes, time, message);
+        if matches!(reply, Reply::Accepted) {
+            self.touch(message.peer);
+        }
+        reply
+    }
+
+    // Answers whether there is such a lane.
+    fn set(&mut self, station: Station, lane: Lane) -> bool {
+        self.touch(station);
+        match lane {
+            Lane::Closed => self.lanes.close(station),
+            Lane::Free(time) => self.lanes.set_free(station, time),
+        }
+    }
+}
+
+impl fmt::Display for LaneLink {
+    fn fmt<W: fmt::Write>(&self, f: &mut fmt::Formatter<W>) -> fmt::Result {
+        let taken = Taken {
+            count: self.lanes.count(),
+            latest: self.lanes.latest(),
+        };
+        write!(f, "{taken} lanes=")?;
         if self.touched.is_empty() {
-            return out.push_str("-\n");
+            return f.write_str("-");
         }
-        let mut between = "";
-        for station in 0..256u32 {
-            if self.touched.contains(&station) {
-                out.push_str(between)?;
-                between = ",";
-                show_lane(heap, station, self.lanes.lane(Station(station)), out)?;
-            }
-        }
-        out.push_str("\n")
+        f.write_joined(self.touched.iter().map(|station| self.at(*station)), ",")
     }
 }
 
-fn show_lane(heap: Global, station: u32, lane: Lane, out: &mut String) -> Result<(), AllocError> {
-    show_number(heap, u64::from(station), out)?;
-    out.push_str(":")?;
-    match lane {
-        Lane::Closed => out.push_str("closed"),
-        Lane::Free(time) => show_number(heap, time, out),
-    }
-}
-
+// The links to numbered stations.
 #[derive(Drop)]
 pub(crate) enum StationLink {
     Lanes(LaneLink),
     Outbox(Outbox<Station, Seat>),
 }
 
-fn open_lanes(heap: Global, spacing: u64) -> Result<StationLink, Fault> {
-    match Lanes::new(spacing) {
-        Ok(lanes) => Ok(StationLink::Lanes(LaneLink {
-            lanes,
-            touched: Vec::new(heap),
-        })),
-        Err(_) => Err(Fault::Expected("a spacing of at most an hour")),
+impl Show for StationLink {
+    fn show<W: fmt::Write>(&self, f: &mut fmt::Formatter<W>) -> fmt::Result {
+        match self {
+            StationLink::Lanes(l) => write!(f, "{l}"),
+            StationLink::Outbox(o) => o.show(f),
+        }
     }
 }
 
-impl Wired for Station {
-    type Key = Seat;
+impl Wired for StationLink {
+    type Peer = Station;
 
-    type Link = StationLink;
+    type Key = Seat;
 
     fn open(heap: Global, wire: Wire) -> Result<StationLink, Fault> {
         match wire {
-            Wire::Lane(spacing) => open_lanes(heap, spacing),
+            Wire::Lane(spacing) => Ok(StationLink::Lanes(LaneLink::open(heap, spacing)?)),
             Wire::Outbox(bytes) => Ok(StationLink::Outbox(Outbox::new(heap, bytes as usize)?)),
         }
     }
 
-    fn check(link: &StationLink, peer: Station, time: u64) -> Option<u64> {
-        match link {
+    fn wait(&self, peer: Station, time: u64) -> Option<u64> {
+        match self {
             StationLink::Lanes(l) => wait_of(&l.lanes, peer, time),
             StationLink::Outbox(o) => wait_of(o, peer, time),
         }
     }
 
-    fn send(link: &mut StationLink, time: u64, id: u64, peer: Station, key: Seat) -> Reply {
-        match link {
-            StationLink::Lanes(l) => {
-                let reply = send_over(&mut l.lanes, time, id, peer, key);
-                if matches!(reply, Reply::Accepted) {
-                    l.touch(peer.0);
-                }
-                reply
-            }
-            StationLink::Outbox(o) => send_over(o, time, id, peer, key),
+    fn post(&mut self, time: u64, message: Message<Station, Seat>) -> Reply {
+        match self {
+            StationLink::Lanes(l) => l.send(time, message),
+            StationLink::Outbox(o) => send_over(o, time, message),
         }
     }
 
-    fn set_lane(link: &mut StationLink, station: u32, lane: Lane) -> bool {
-        let StationLink::Lanes(l) = link else {
-            return false;
+    fn set_lane(&mut self, station: Station, lane: Lane) -> Result<(), Fault> {
+        let StationLink::Lanes(l) = self else {
+            return Err(A_LANE);
         };
-        l.touch(station);
-        match lane {
-            Lane::Closed => l.lanes.close(Station(station)),
-            Lane::Free(time) => l.lanes.set_free(Station(station), time),
-        }
-    }
-
-    fn show_link(link: &StationLink, heap: Global, out: &mut String) -> Result<(), AllocError> {
-        match link {
-            StationLink::Lanes(l) => l.show(heap, out),
-            StationLink::Outbox(o) => {
-                show_tally(heap, o.count(), o.latest(), out)?;
-                show_bytes(heap, o.bytes(), out)
-            }
+        if l.set(station, lane) {
+            Ok(())
+        } else {
+            Err(A_LANE)
         }
     }
 }
 
-impl Wired for PublicKey {
+impl<P: Storable + Show, K: Storable + Show> Show for Outbox<P, K> {
+    fn show<W: fmt::Write>(&self, f: &mut fmt::Formatter<W>) -> fmt::Result {
+        let taken = Taken {
+            count: self.count(),
+            latest: self.latest(),
+        };
+        let bytes = self.bytes();
+        write!(f, "{taken} outbox={}:{}", bytes.len(), Hex(bytes))
+    }
+}
+
+// The one link to stations by public key: lanes are for numbered stations.
+pub(crate) type KeyLink = Outbox<PublicKey, Digest>;
+
+impl Wired for KeyLink {
+    type Peer = PublicKey;
+
     type Key = Digest;
 
-    type Link = Outbox<PublicKey, Digest>;
-
-    fn open(heap: Global, wire: Wire) -> Result<Outbox<PublicKey, Digest>, Fault> {
+    fn open(heap: Global, wire: Wire) -> Result<KeyLink, Fault> {
         match wire {
             Wire::Lane(_) => Err(Fault::Expected(
                 "link=outbox:BYTES: lanes are for numbered stations",
@@ -218,30 +253,15 @@ impl Wired for PublicKey {
         }
     }
 
-    fn check(link: &Outbox<PublicKey, Digest>, peer: PublicKey, time: u64) -> Option<u64> {
-        wait_of(link, peer, time)
+    fn wait(&self, peer: PublicKey, time: u64) -> Option<u64> {
+        wait_of(self, peer, time)
     }
 
-    fn send(
-        link: &mut Outbox<PublicKey, Digest>,
-        time: u64,
-        id: u64,
-        peer: PublicKey,
-        key: Digest,
-    ) -> Reply {
-        send_over(link, time, id, peer, key)
+    fn post(&mut self, time: u64, message: Message<PublicKey, Digest>) -> Reply {
+        send_over(self, time, message)
     }
 
-    fn set_lane(_link: &mut Outbox<PublicKey, Digest>, _station: u32, _lane: Lane) -> bool {
-        false
-    }
-
-    fn show_link(
-        link: &Outbox<PublicKey, Digest>,
-        heap: Global,
-        out: &mut String,
-    ) -> Result<(), AllocError> {
-        show_tally(heap, link.count(), link.latest(), out)?;
-        show_bytes(heap, link.bytes(), out)
+    fn set_lane(&mut self, _station: Station, _lane: Lane) -> Result<(), Fault> {
+        Err(A_LANE)
     }
 }
