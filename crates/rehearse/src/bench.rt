@@ -32,6 +32,7 @@ fn one_round(rt: &HostRuntime, lines: &mut [Timed<'_>]) -> anyhow::Result<()> {
     for (i, timed) in lines.iter_mut().enumerate() {
         match session.line(timed.line) {
             Ok(_) | Err(Fault::NotYet) => {}
+            // Here the error counts lines from 0.
             Err(fault) => return Err(fault.at(i).into()),
         }
         timed.quickest = timed.quickest.min(session.spent());

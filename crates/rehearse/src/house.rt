@@ -92,12 +92,12 @@ impl<L: Wired, R: Rating> House<L, R> {
         self.roster.weight(peer)
     }
 
-    pub(crate) fn check(&self, time: u64, peer: L::Peer) -> Option<u64> {
-        self.link.wait(peer, time)
+    pub(crate) fn check(&self, time: u64, peer: L::Peer) -> Reply {
+        self.link.check(time, peer)
     }
 
     pub(crate) fn send(&mut self, time: u64, message: Message<L::Peer, L::Key>) -> Reply {
-        self.link.post(time, message)
+        self.link.send(time, message)
     }
 
     pub(crate) fn set_lane(&mut self, station: Station, lane: Lane) -> Result<(), Fault> {

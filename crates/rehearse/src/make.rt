@@ -1,7 +1,7 @@
 // The line that makes a house: its numbers, its link, its draw source and its level.
 use crate::fault::{Fault, Refusal};
 use crate::source::Words;
-use crate::term::{number, parts};
+use crate::term::{number, number_or, parts};
 use std::alloc::Global;
 use std::collections::BTreeSet;
 use std::fmt;
@@ -171,9 +171,7 @@ fn words_of(heap: Global, text: &str) -> Result<Vec<u64>, Fault> {
 fn source_of(heap: Global, text: &str) -> Result<Words, Fault> {
     match text.split_once(':') {
         Some(("list", words)) => Ok(Words::List(words_of(heap, words)?)),
-        Some(("xorshift", seed)) => Ok(Words::Xorshift(number(seed).ok_or(Fault::Expected(
-            "a seed, as xorshift:7",
-        ))?)),
+        Some(("xorshift", seed)) => Ok(Words::Xorshift(number_or(seed, "a seed, as xorshift:7")?)),
         _ => Err(Fault::Expected("source=list:WORDS or source=xorshift:SEED")),
     }
 }
@@ -229,15 +227,9 @@ impl<'a> Draft<'a> {
             .split_once('=')
             .ok_or(Fault::Expected("name=value after make"))?;
         match name {
-            "engine" => self.engine = number(value).ok_or(Fault::Expected(
-                "engine=N, a 32-bit number",
-            ))?,
-            "timeout" => self.timeout = Some(number(value).ok_or(Fault::Expected(
-                "timeout=N in nanoseconds",
-            ))?),
-            "delay" => self.delay = Some(number(value).ok_or(Fault::Expected(
-                "delay=N in nanoseconds",
-            ))?),
+            "engine" => self.engine = number_or(value, "engine=N, a 32-bit number")?,
+            "timeout" => self.timeout = Some(number_or(value, "timeout=N in nanoseconds")?),
+            "delay" => self.delay = Some(number_or(value, "delay=N in nanoseconds")?),
             "me" => self.me = value,
             "rows" => self.rows = Rows::read(value).ok_or(Fault::Expected(
                 "rows= and six numbers",

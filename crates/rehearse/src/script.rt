@@ -2,7 +2,7 @@
 use crate::fault::{CallError, Fault, Refusal};
 use crate::house::House;
 use crate::show::{Listed, Show};
-use crate::term::{Term, list, number};
+use crate::term::{Term, list, number_or};
 use crate::watch::Watch;
 use crate::wired::{Reply, Wired};
 use kinds::Station;
@@ -65,15 +65,13 @@ pub(crate) struct Request<'a> {
     pub(crate) words: &'a [&'a str],
 }
 
-// What a house answers. A weight is absent for a peer that is not on the roster; a check answers the time until which
-// the peer is to wait, if it is.
+// What a house answers. A weight is absent for a peer that is not on the roster.
 #[derive(Drop)]
 pub(crate) enum Answer<P> {
     Done,
     Order(Vec<P>),
     Weight(Option<u64>),
-    Checked(Option<u64>),
-    Sent(Reply),
+    Link(Reply),
 }
 
 impl<P: Show> fmt::Display for Answer<P> {
@@ -83,9 +81,7 @@ impl<P: Show> fmt::Display for Answer<P> {
             Answer::Order(peers) => write!(f, "order {}", Listed(peers.as_slice())),
             Answer::Weight(Some(weight)) => write!(f, "{weight}"),
             Answer::Weight(None) => f.write_str("-"),
-            Answer::Checked(Some(until)) => write!(f, "wait {until}"),
-            Answer::Checked(None) => f.write_str("pass"),
-            Answer::Sent(reply) => write!(f, "{reply}"),
+            Answer::Link(reply) => write!(f, "{reply}"),
         }
     }
 }
@@ -106,7 +102,7 @@ fn part_of(engine: u32, words: &[&str]) -> Result<u32, Fault> {
     match words {
         [] => Ok(engine),
         [word] => match word.strip_prefix('@') {
-            Some(n) => number(n).ok_or(Fault::Expected("@E, a 32-bit engine number")),
+            Some(n) => number_or(n, "@E, a 32-bit engine number"),
             None => Err(Fault::Expected("the end of the line, or @E")),
         },
         _ => Err(Fault::Expected("the end of the line, or @E")),
@@ -114,7 +110,7 @@ fn part_of(engine: u32, words: &[&str]) -> Result<u32, Fault> {
 }
 
 fn time_of(text: &str) -> Result<u64, Fault> {
-    number(text).ok_or(Fault::Expected("a time in nanoseconds"))
+    number_or(text, "a time in nanoseconds")
 }
 
 fn peer_of<P: Term>(text: &str) -> Result<P, Fault> {
@@ -164,7 +160,7 @@ fn record<L: Wired, R: Rating>(
         return Err(Fault::Expected("record PEER LENGTH ELAPSED"));
     };
     let peer = peer_of(peer)?;
-    let size = number(size).ok_or(Fault::Expected("a length in bytes"))?;
+    let size = number_or(size, "a length in bytes")?;
     let elapsed = time_of(elapsed)?;
     house.record(peer, elapsed, size);
     Ok(Answer::Done)
@@ -177,7 +173,7 @@ fn order<L: Wired, R: Rating>(
     let [retries] = words else {
         return Err(Fault::Expected("order RETRIES"));
     };
-    let retries = number(retries).ok_or(Fault::Expected("a 32-bit number of retries"))?;
+    let retries = number_or(retries, "a 32-bit number of retries")?;
     Ok(Answer::Order(house.order(retries)?))
 }
 
@@ -189,7 +185,7 @@ fn check<L: Wired, R: Rating>(
         return Err(Fault::Expected("check TIME PEER"));
     };
     let time = time_of(time)?;
-    Ok(Answer::Checked(house.check(time, peer_of(peer)?)))
+    Ok(Answer::Link(house.check(time, peer_of(peer)?)))
 }
 
 fn send<L: Wired, R: Rating>(
@@ -200,20 +196,19 @@ fn send<L: Wired, R: Rating>(
         return Err(Fault::Expected("send TIME ID PEER KEY"));
     };
     let time = time_of(time)?;
-    let id = number(id).ok_or(Fault::Expected("a 64-bit id"))?;
+    let id = number_or(id, "a 64-bit id")?;
     let peer = peer_of(peer)?;
     let key = L::Key::read(key).ok_or(Fault::Expected(
         "a key, as 77:12, or 64 hexadecimal digits",
     ))?;
-    Ok(Answer::Sent(house.send(time, Message { id, peer, key })))
+    Ok(Answer::Link(house.send(time, Message { id, peer, key })))
 }
 
 fn lane_of(text: &str) -> Result<Lane, Fault> {
     if text == "closed" {
         return Ok(Lane::Closed);
     }
-    let time = number(text).ok_or(Fault::Expected("closed, or a time below 2^63"))?;
-    Ok(Lane::Free(time))
+    Ok(Lane::Free(number_or(text, "closed, or a time below 2^63")?))
 }
 
 fn lane<L: Wired, R: Rating>(

@@ -31,7 +31,8 @@ impl Hall {
         }
     }
 
-    // Obeys a call, and writes its answer. Each arm has a house of another type, and a closure takes only one.
+    // Obeys a call, and writes its answer. Kept as four arms, here and below: each has a house of another type, a closure
+    // takes only one, and a dyn value may not be handed out.
     fn obey(
         &mut self,
         watch: &mut Watch<'_>,

@@ -48,8 +48,7 @@ impl<D: DrawSource> DrawSource for Counted<D> {
     }
 }
 
-// Kept as two types of sources: one type over both needs an arm for each in its words and in its row of words ahead, and
-// so is no plainer.
+// Kept as two types: one over both needs an arm for each in `word` and in the row of words ahead, and is no plainer.
 #[derive(Drop)]
 pub(crate) enum Source {
     List(Counted<Supplied>),

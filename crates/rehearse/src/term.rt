@@ -23,6 +23,14 @@ where
     text.parse().ok()
 }
 
+// A number, or what was expected.
+pub(crate) fn number_or<N: FromStr>(text: &str, expected: &'static str) -> Result<N, Fault>
+where
+    N::Err: Drop,
+{
+    number(text).ok_or(Fault::Expected(expected))
+}
+
 // 64 hexadecimal digits.
 fn bytes32(text: &str) -> Option<Bytes32> {
     let bytes = <[u8; 32] as FromHex>::from_hex(text).ok()?;

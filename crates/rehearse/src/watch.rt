@@ -14,7 +14,7 @@ impl<'a> Watch<'a> {
     }
 
     // Makes a call, and keeps the nanoseconds that it took.
-    pub(crate) fn time<T: Drop, F: FnOnce() -> T>(&mut self, call: F) -> T
+    pub(crate) fn time<T, F: FnOnce() -> T>(&mut self, call: F) -> T
         requires { F.IsAlwaysCallable call }
     {
         let began = Instant::now(self.rt);

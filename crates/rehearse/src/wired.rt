@@ -9,9 +9,10 @@ use std::alloc::Global;
 use std::collections::BTreeSet;
 use std::fmt;
 
-// What a link says to a message by hand.
+// What a link says of a peer, and to a message by hand.
 #[derive(Clone, Copy)]
 pub(crate) enum Reply {
+    Pass,
     Accepted,
     Closed,
     Wait(u64),
@@ -20,6 +21,7 @@ pub(crate) enum Reply {
 impl fmt::Display for Reply {
     fn fmt<W: fmt::Write>(&self, f: &mut fmt::Formatter<W>) -> fmt::Result {
         match self {
+            Reply::Pass => f.write_str("pass"),
             Reply::Accepted => f.write_str("accepted"),
             Reply::Closed => f.write_str("closed"),
             Reply::Wait(until) => write!(f, "wait {until}"),
@@ -35,11 +37,11 @@ pub(crate) trait Wired: Show + Drop {
 
     fn open(heap: Global, wire: Wire) -> Result<Self, Fault>;
 
-    // The time until which a peer is to wait, if it is.
-    fn wait(&self, peer: Self::Peer, time: u64) -> Option<u64>;
+    // What the link says of a peer: pass or wait.
+    fn check(&self, time: u64, peer: Self::Peer) -> Reply;
 
     // Checks, and sends under the pass.
-    fn post(&mut self, time: u64, message: Message<Self::Peer, Self::Key>) -> Reply;
+    fn send(&mut self, time: u64, message: Message<Self::Peer, Self::Key>) -> Reply;
 
     // The owner sets the lane of a station.
     fn set_lane(&mut self, station: Station, lane: Lane) -> Result<(), Fault>;
@@ -50,11 +52,11 @@ const A_LANE: Fault = Fault::Expected(
     "a lane link, a station from 0 to 255, and a time below 2^63",
 );
 
-// The time that a check answers. A pass that is not sent under is taken apart.
-fn wait_of<P: Ordered, K: Ordered, L: Link<P, K>>(link: &L, peer: P, time: u64) -> Option<u64> {
+// A pass that is not sent under is taken apart.
+fn check_over<P: Ordered, K: Ordered, L: Link<P, K>>(link: &L, time: u64, peer: P) -> Reply {
     match link.check(peer, time) {
-        Ok(Pass { peer: _, time: _ }) => None,
-        Err(until) => Some(until),
+        Ok(Pass { peer: _, time: _ }) => Reply::Pass,
+        Err(until) => Reply::Wait(until),
     }
 }
 
@@ -127,7 +129,7 @@ impl LaneLink {
         }
     }
 
-    fn at(&self, station: u32) -> LaneAt {
+    fn lane_at(&self, station: u32) -> LaneAt {
         LaneAt {
             station,
             lane: self.lanes.lane(Station(station)),
@@ -167,7 +169,10 @@ impl fmt::Display for LaneLink {
         if self.touched.is_empty() {
             return f.write_str("-");
         }
-        f.write_joined(self.touched.iter().map(|station| self.at(*station)), ",")
+        f.write_joined(
+            self.touched.iter().map(|station| self.lane_at(*station)),
+            ",",
+        )
     }
 }
 
@@ -199,14 +204,14 @@ impl Wired for StationLink {
         }
     }
 
-    fn wait(&self, peer: Station, time: u64) -> Option<u64> {
+    fn check(&self, time: u64, peer: Station) -> Reply {
         match self {
-            StationLink::Lanes(l) => wait_of(&l.lanes, peer, time),
-            StationLink::Outbox(o) => wait_of(o, peer, time),
+            StationLink::Lanes(l) => check_over(&l.lanes, time, peer),
+            StationLink::Outbox(o) => check_over(o, time, peer),
         }
     }
 
-    fn post(&mut self, time: u64, message: Message<Station, Seat>) -> Reply {
+    fn send(&mut self, time: u64, message: Message<Station, Seat>) -> Reply {
         match self {
             StationLink::Lanes(l) => l.send(time, message),
             StationLink::Outbox(o) => send_over(o, time, message),
@@ -253,11 +258,11 @@ impl Wired for KeyLink {
         }
     }
 
-    fn wait(&self, peer: PublicKey, time: u64) -> Option<u64> {
-        wait_of(self, peer, time)
+    fn check(&self, time: u64, peer: PublicKey) -> Reply {
+        check_over(self, time, peer)
     }
 
-    fn post(&mut self, time: u64, message: Message<PublicKey, Digest>) -> Reply {
+    fn send(&mut self, time: u64, message: Message<PublicKey, Digest>) -> Reply {
         send_over(self, time, message)
     }
 
