@@ -231,6 +231,7 @@ fn ask<L: Wired, R: Rating>(house: &House<L, R>, words: &[&str]) -> Result<Answe
 }
 
 impl Request<'_> {
+    // The watch is kept beside the house, since it outlives each house.
     pub(crate) fn obey<L: Wired, R: Rating>(
         self,
         watch: &mut Watch<'_>,

@@ -1,6 +1,5 @@
-// How a trace shows what the lower crates define: stations and keys, ratings, lanes, bytes and lists of them.
+// How a trace shows what the lower crates define: stations and keys, ratings, bytes and lists of them.
 use kinds::{Bytes32, Digest, PublicKey, Seat, Station};
-use link::Lane;
 use score::{Flat, Score};
 use std::fmt;
 use tables::Only;
@@ -79,15 +78,6 @@ impl Show for Digest {
 impl<K: Show> Show for Only<K> {
     fn show<W: fmt::Write>(&self, f: &mut fmt::Formatter<W>) -> fmt::Result {
         self.key.show(f)
-    }
-}
-
-impl Show for Lane {
-    fn show<W: fmt::Write>(&self, f: &mut fmt::Formatter<W>) -> fmt::Result {
-        match self {
-            Lane::Closed => f.write_str("closed"),
-            Lane::Free(time) => write!(f, "{time}"),
-        }
     }
 }
 

@@ -107,7 +107,10 @@ struct LaneAt {
 
 impl fmt::Display for LaneAt {
     fn fmt<W: fmt::Write>(&self, f: &mut fmt::Formatter<W>) -> fmt::Result {
-        write!(f, "{}:{}", self.station, Shown(&self.lane))
+        match self.lane {
+            Lane::Closed => write!(f, "{}:closed", self.station),
+            Lane::Free(time) => write!(f, "{}:{time}", self.station),
+        }
     }
 }
 
