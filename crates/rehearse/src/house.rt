@@ -8,7 +8,7 @@ use crate::wired::{Reply, Wired};
 use draw::order_of;
 use kinds::Station;
 use link::{Lane, Message};
-use roster::Participants;
+use roster::{Excluded, Participants};
 use score::Rating;
 use std::alloc::Global;
 use std::fmt;
@@ -66,9 +66,11 @@ impl<L: Wired, R: Rating> House<L, R> {
 
     // Makes the list the roster. Refused for a list out of order, with a repeat or longer than its table.
     pub(crate) fn reconcile(&mut self, list: &[L::Peer]) -> Result<(), Refusal> {
-        if !fits_table(list, self.roster.most())
-            || !self.roster.reconcile(list, self.me, &self.blocked)
-        {
+        let excluded = Excluded {
+            own: self.me,
+            blocked: &self.blocked,
+        };
+        if !fits_table(list, self.roster.most()) || !self.roster.reconcile(list, excluded) {
             return Err(Refusal::List);
         }
         Ok(())
@@ -79,7 +81,10 @@ impl<L: Wired, R: Rating> House<L, R> {
         if !fits_table(list, self.blocked.most()) || !self.blocked.fill(list) {
             return Err(Refusal::List);
         }
-        self.roster.weigh(self.me, &self.blocked);
+        self.roster.weigh(Excluded {
+            own: self.me,
+            blocked: &self.blocked,
+        });
         Ok(())
     }
 
@@ -106,7 +111,7 @@ impl<L: Wired, R: Rating> House<L, R> {
 
     // The places of the roster in the order in which they would be asked after a number of retries.
     fn places(&mut self, retries: u32) -> Result<Vec<usize>, Fault> {
-        let mut shares = self.roster.shares.clone()?;
+        let mut shares = self.roster.shares.rows.clone()?;
         let rows = shares.as_mut_slice();
         match &mut self.source {
             Source::List(words) => Ok(order_of(self.heap, rows, words, retries)?),
@@ -119,7 +124,7 @@ impl<L: Wired, R: Rating> House<L, R> {
         let places = self.places(retries)?;
         let peers = places
             .iter()
-            .filter_map(|place| self.roster.rows.get(*place))
+            .filter_map(|place| self.roster.peers.at(*place))
             .map(|row| row.peer)
             .collect(self.heap)?;
         Ok(peers)
@@ -133,7 +138,8 @@ impl<L: Wired, R: Rating + Show> House<L, R> {
         if self.roster.len() == 0 {
             f.write_str(" -")?;
         }
-        for (row, share) in self.roster.rows.iter().zip(self.roster.shares.iter()) {
+        let shares = self.roster.shares.rows.as_slice();
+        for (row, share) in self.roster.peers.rows().iter().zip(shares.iter()) {
             write!(
                 f,
                 " {}={}{}",

@@ -206,9 +206,9 @@ fn send<L: Wired, R: Rating>(
 
 fn lane_of(text: &str) -> Result<Lane, Fault> {
     if text == "closed" {
-        return Ok(Lane::Closed);
+        return Ok(None);
     }
-    Ok(Lane::Free(number_or(text, "closed, or a time below 2^63")?))
+    Ok(Some(number_or(text, "closed, or a time below 2^63")?))
 }
 
 fn lane<L: Wired, R: Rating>(

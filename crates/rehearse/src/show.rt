@@ -1,5 +1,5 @@
 // How a trace shows what the lower crates define: stations and keys, ratings, bytes and lists of them.
-use kinds::{Bytes32, Digest, PublicKey, Seat, Station};
+use kinds::{Bytes32, Named, Seat, Station};
 use score::{Flat, Score};
 use std::fmt;
 use tables::Only;
@@ -57,21 +57,15 @@ impl Show for Station {
     }
 }
 
-impl Show for PublicKey {
+impl<R> Show for Named<R> {
     fn show<W: fmt::Write>(&self, f: &mut fmt::Formatter<W>) -> fmt::Result {
-        self.0.show(f)
+        self.bytes.show(f)
     }
 }
 
 impl Show for Seat {
     fn show<W: fmt::Write>(&self, f: &mut fmt::Formatter<W>) -> fmt::Result {
         write!(f, "{}:{}", self.performance, self.seat)
-    }
-}
-
-impl Show for Digest {
-    fn show<W: fmt::Write>(&self, f: &mut fmt::Formatter<W>) -> fmt::Result {
-        self.0.show(f)
     }
 }
 

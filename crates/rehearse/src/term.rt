@@ -2,7 +2,7 @@
 use crate::fault::Fault;
 use crate::show::Show;
 use hex::FromHex;
-use kinds::{Bytes32, Digest, Ordered, PublicKey, Seat, Station};
+use kinds::{Bytes32, Named, Ordered, Seat, Station};
 use std::alloc::Global;
 use std::str::FromStr;
 
@@ -43,9 +43,9 @@ impl Term for Station {
     }
 }
 
-impl Term for PublicKey {
-    fn read(text: &str) -> Option<PublicKey> {
-        Some(PublicKey(bytes32(text)?))
+impl<R> Term for Named<R> {
+    fn read(text: &str) -> Option<Named<R>> {
+        Some(Named::new(bytes32(text)?))
     }
 }
 
@@ -56,12 +56,6 @@ impl Term for Seat {
             performance: number(performance)?,
             seat: number(seat)?,
         })
-    }
-}
-
-impl Term for Digest {
-    fn read(text: &str) -> Option<Digest> {
-        Some(Digest(bytes32(text)?))
     }
 }
 

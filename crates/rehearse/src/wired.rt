@@ -108,8 +108,8 @@ struct LaneAt {
 impl fmt::Display for LaneAt {
     fn fmt<W: fmt::Write>(&self, f: &mut fmt::Formatter<W>) -> fmt::Result {
         match self.lane {
-            Lane::Closed => write!(f, "{}:closed", self.station),
-            Lane::Free(time) => write!(f, "{}:{time}", self.station),
+            None => write!(f, "{}:closed", self.station),
+            Some(time) => write!(f, "{}:{time}", self.station),
         }
     }
 }
@@ -156,8 +156,8 @@ impl LaneLink {
     fn set(&mut self, station: Station, lane: Lane) -> bool {
         self.touch(station);
         match lane {
-            Lane::Closed => self.lanes.close(station),
-            Lane::Free(time) => self.lanes.set_free(station, time),
+            None => self.lanes.close(station),
+            Some(time) => self.lanes.set_free(station, time),
         }
     }
 }
