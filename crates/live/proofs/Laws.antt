@@ -1,10 +1,12 @@
 -- What a caller may know of the queue.
 use Rattle.std.proofs.Common.{◌≡◌, ℕ, ◌+◌, ◌<◌, ◌≤◌, Bool, true, false, cond, ◌⊎◌, List, [], ◌∷◌, length, is_some, Some, None, Option, Less, Equal, sym, refl, ap, ◌∙◌, subst, inl, inr, ⊎_elim, arith}
 use Rattle.std.specs.List.{AllByRecursion as All}
-use Rattle.kinds.specs.Order.{by_number}
 use Rattle.kinds.specs.declared.ordered.Ordered.{Ghosts as Order}
-use Rattle.kinds.specs.Lex.{then_joined, then_equal, then_reversed, number_same, number_reflexive, number_turned, number_joined}
-use Rattle.tables.specs.Rows.{Lawful, Ascending, In, pair, lookup, put}
+use Rattle.kinds.specs.Lex.{then_equal, number_same}
+use Rattle.std.specs.Cmp.{nat_cmp_total, bool_cmp_total, then_total, on_total}
+use Rattle.std.specs.Ordering.{bool_cmp}
+use Rattle.tables.proofs.Lawfuls.{lawful, pair_lawful}
+use Rattle.tables.specs.Rows.{Lawful, Ascending, In, lookup, put}
 use Rattle.tables.specs.Tables.{Tab, with_rows, fits, emptied}
 use Rattle.tables.proofs.WalkLaws as walk
 use Rattle.tables.proofs.Laws.{ascending_none, ascending_put, length_put}
@@ -18,24 +20,21 @@ use Rattle.live.specs.declared.queue.QueueRow.{QueueRow}
 use Rattle.live.specs.Queues.{by_turn, by_queue, turn_of, queue_at, queue_row, enqueued, queue_on}
 use Rattle.live.specs.Keys.{key_of}
 
-abbrev turn : ℕ → ℕ → Turn
-turn r d = record { round = r; deadline = d }
+abbrev turn : Bool → ℕ → Turn
+turn r d = record { retried = r; deadline = d }
+
+flag_same : (x y : Bool) → bool_cmp x y ≡ Equal → x ≡ y
+flag_same true true h = refl
+flag_same true false h = cc
+flag_same false true h = cc
+flag_same false false h = refl
 
 pub turn_lawful : Lawful by_turn
-turn_lawful = record {
-  same = λ x y h. let t = then_equal _ _ h in let f : x.round ≡ y.round = number_same _ _ t.0 in let g : x.deadline ≡ y.deadline = number_same _ _ t.1 in ap (λ i. turn i x.deadline) f ∙ ap (λ j. turn y.round j) g;
-  reflexive = λ x. rw (number_reflexive x.round, number_reflexive x.deadline) refl;
-  turned = λ x y. rw (number_turned x.round y.round, number_turned x.deadline y.deadline) (then_reversed (by_number x.round y.round) (by_number x.deadline y.deadline));
-  joined = λ x y z h l. then_joined by_number number_same number_joined x.round y.round z.round _ _ _ _ _ refl refl (number_joined x.deadline y.deadline z.deadline) h l;
-}
+turn_lawful = lawful (then_total (on_total (λ x. x.retried) bool_cmp_total) (on_total (λ x. x.deadline) nat_cmp_total))
+    (λ x y h. let t = then_equal _ _ h in let f = flag_same _ _ t.0 in let g = number_same _ _ t.1 in λ i. turn (f i) (g i))
 
 pub queue_lawful : {K : Type 0} (k : Order K) → Lawful k.order → Lawful (by_queue k)
-queue_lawful k a = record {
-  same = λ x y h. let t = then_equal _ _ h in let f : x.first ≡ y.first = turn_lawful.same _ _ t.0 in let g : x.second ≡ y.second = a.same _ _ t.1 in ap (λ i. pair i x.second) f ∙ ap (λ j. pair y.first j) g;
-  reflexive = λ x. rw (turn_lawful.reflexive x.first, a.reflexive x.second) refl;
-  turned = λ x y. rw (turn_lawful.turned x.first y.first, a.turned x.second y.second) (then_reversed (by_turn x.first y.first) (k.order x.second y.second));
-  joined = λ x y z h l. then_joined by_turn turn_lawful.same turn_lawful.joined x.first y.first z.first _ _ _ _ _ refl refl (a.joined x.second y.second z.second) h l;
-}
+queue_lawful k a = pair_lawful (record { order = by_turn }) k turn_lawful a
 
 module _ {K : Type 0} (k : Order K) (o : Lawful k.order) where
   put_up : (b : Bool) (q : QueueRow K) (t : Tab (QueueRow K)) → Ascending (by_queue k) turn_of t.rows → Ascending (by_queue k) turn_of (cond b (record { engine = t.engine; most = t.most; rows = put (by_queue k) turn_of q t.rows }) t).rows

@@ -54,8 +54,7 @@ fn retries_after<P: Copy>(retries: u32, event: Event<P>) -> u32
     ensures { result ≡ retries_after retries event }
 {
     match event {
-        Event::Returned { .. } => retries.saturating_add(1),
-        Event::Rejected { .. } => retries.saturating_add(1),
+        Event::Returned { .. } | Event::Rejected { .. } => retries.saturating_add(1),
         _ => retries,
     }
 }
@@ -64,13 +63,10 @@ fn retries_after<P: Copy>(retries: u32, event: Event<P>) -> u32
 pub fn moved_row<K: Ordered, P: Copy>(row: KeyRow<K, P>, event: Event<P>) -> Option<KeyRow<K, P>>
     ensures { result ≡ row_after row event }
 {
-    match moved(row.stage, event) {
-        Some(stage) => Some(KeyRow {
-            key: row.key,
-            aimed: row.aimed,
-            retries: retries_after(row.retries, event),
-            stage,
-        }),
-        None => None,
-    }
+    let stage = moved(row.stage, event)?;
+    Some(KeyRow {
+        retries: retries_after(row.retries, event),
+        stage,
+        ..row
+    })
 }

@@ -6,10 +6,14 @@ use Rattle.kinds.specs.declared.ordered.Ordered.{Ghosts as Order}
 use Rattle.kinds.specs.Lex.{then_joined, then_equal, then_reversed, number_same, number_reflexive, number_turned, number_joined}
 use Rattle.tables.specs.Rows.{Lawful, by_pair, pair}
 
+-- a total order that tells different values apart
+pub lawful : {K : Type 0} {order : K → K → Ordering} → IsTotalOrder order → ((x y : K) → order x y ≡ Equal → x ≡ y) → Lawful order
+lawful t same = record { same = same; reflexive = tied_itself t; turned = λ x y. t.antisymm y x; joined = t.trans }
+
 -- the order of a kind, by what the kind's comparisons are and what they follow
 pub kind_lawful : {K : Type 0} {compare order : K → K → Ordering} → IsTotalOrder compare → ((x y : K) → compare x y ≡ order x y) → ((x y : K) → compare x y ≡ Equal → x ≡ y)
     → Lawful order
-kind_lawful t compares same = subst Lawful (λ i x y. compares x y i) (record { same = same; reflexive = tied_itself t; turned = λ x y. t.antisymm y x; joined = t.trans })
+kind_lawful t compares same = subst Lawful (λ i x y. compares x y i) (lawful t same)
 
 pub number_lawful : Lawful by_number
 number_lawful = record { same = number_same; reflexive = number_reflexive; turned = number_turned; joined = number_joined }

@@ -5,8 +5,8 @@ ghost use Rattle.live.specs.Queues.{first_queued, next_queued, queue_on};
 ghost use Rattle.live.specs.Requests.{earliest, asked, id_out, under};
 
 use crate::keys::LiveKeys;
-use crate::queue::{QueueFrom, QueueRow, list_queue};
-use crate::requests::{Earliest, Request, WithId, WithSlip, asked_in};
+use crate::queue::{QueueRow, comes_before, list_queue, queue_row, queued_after};
+use crate::requests::{Request, asked_in, comes_sooner, id_in, request_of, under_in};
 use crate::row::KeyRow;
 use kinds::Ordered;
 use tables::{best, first};
@@ -16,14 +16,18 @@ impl<K: Ordered, P: Ordered> LiveKeys<K, P> {
     pub fn first_queued(&self) -> Option<QueueRow<K>>
         ensures { result ≡ first_queued K.Ordered.own (tab_of self.now.table).rows }
     {
-        best(self.table.rows(), &QueueFrom { last: None })
+        best(self.table.rows(), queue_row, comes_before)
     }
 
     // The next queued key after one.
     pub fn next_queued(&self, last: QueueRow<K>) -> Option<QueueRow<K>>
         ensures { result ≡ next_queued K.Ordered.own last (tab_of self.now.table).rows }
     {
-        best(self.table.rows(), &QueueFrom { last: Some(last) })
+        best(
+            self.table.rows(),
+            |row| queued_after(row, &last),
+            comes_before,
+        )
     }
 
     // Lists the whole queue, in its order.
@@ -38,28 +42,31 @@ impl<K: Ordered, P: Ordered> LiveKeys<K, P> {
     pub fn first_out(&self, timeout: u64) -> Option<Request<K, P>>
         ensures { result ≡ earliest timeout (tab_of self.now.table).rows }
     {
-        best(self.table.rows(), &Earliest { timeout })
+        best(
+            self.table.rows(),
+            |row| request_of(row, timeout),
+            comes_sooner,
+        )
     }
 
     // The key that is out under an id at a peer, with its start.
     pub fn asked(&self, id: u64, peer: P) -> Option<(K, u64)>
         ensures { result ≡ asked P.Ordered.own id peer (tab_of self.now.table).rows }
     {
-        asked_in(self.table.rows(), id, peer)
+        first(self.table.rows(), |row| asked_in(row, id, peer))
     }
 
     // Whether an id is out.
     pub fn is_out(&self, id: u64) -> bool
         ensures { result ≡ id_out id (tab_of self.now.table).rows }
     {
-        let found: Option<K> = first(self.table.rows(), &WithId { id });
-        found.is_some()
+        first(self.table.rows(), |row| id_in(row, id)).is_some()
     }
 
     // The key that is under judgement by a slip.
     pub fn judged(&self, slip: u32) -> Option<K>
         ensures { result ≡ under slip (tab_of self.now.table).rows }
     {
-        first(self.table.rows(), &WithSlip { slip })
+        first(self.table.rows(), |row| under_in(row, slip))
     }
 }

@@ -52,10 +52,10 @@ impl<K: Ordered, P: Ordered> LiveKeys<K, P> {
         let Some(row) = self.table.get(key) else {
             return false;
         };
-        match moved_row(row, event) {
-            Some(next) => self.table.put(next),
-            None => false,
-        }
+        let Some(next) = moved_row(row, event) else {
+            return false;
+        };
+        self.table.put(next)
     }
 
     // Says whether a live key has a target set. Answers whether it is live.
@@ -64,14 +64,9 @@ impl<K: Ordered, P: Ordered> LiveKeys<K, P> {
         ensures table { tab_of self.new.table ≡ aimed_in K.Ordered.own key aimed (tab_of self.old.table) }
         ensures queue { tab_of self.new.queue ≡ tab_of self.old.queue }
     {
-        match self.table.get(key) {
-            Some(row) => self.table.put(KeyRow {
-                key: row.key,
-                aimed,
-                retries: row.retries,
-                stage: row.stage,
-            }),
-            None => false,
-        }
+        let Some(row) = self.table.get(key) else {
+            return false;
+        };
+        self.table.put(KeyRow { aimed, ..row })
     }
 }
