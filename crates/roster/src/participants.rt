@@ -13,7 +13,8 @@ use tables::Table;
 
 // The peers in their order with their ratings, and beside each its share of a draw, none set aside. `spare` is memory
 // for the next roster, empty between calls.
-// Kept as two lists side by side, a form of the port: a guard borrows the shared weights as one lent slice of plain rows.
+// Kept as two lists side by side, a form of the port: a guard borrows the shared weights as one lent slice of plain
+// rows.
 #[derive(Drop)]
 pub struct Participants<P: Copy, V: Copy> {
     pub peers: Table<PeerRow<P, V>>,
