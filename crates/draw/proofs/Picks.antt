@@ -1,5 +1,5 @@
 -- What is left to draw from, and what setting a row aside leaves.
-use Rattle.std.proofs.Common.{◌≡◌, ℕ, zero, suc, ◌+◌, ◌<◌, ◌≤◌, true, false, cond, eqb, ltb, List, [], ◌∷◌, length, get_or, take, Some, sym, refl, ap, ◌∙◌, ⊎_elim, arith}
+use Rattle.std.proofs.Common.{◌≡◌, ℕ, zero, suc, ◌+◌, ◌<◌, ◌≤◌, true, false, cond, eqb, List, [], ◌∷◌, length, get_or, take, Some, sym, refl, ap, ◌∙◌, ⊎_elim, arith}
 use Rattle.std.proofs.lemmas.Bool.{eq-eqb, cases_lt, eqb-true, eqb-false, cond_both, cond-true, cond-false, lt-ltb, le-ltb, ne_eqb}
 use Rattle.draw.specs.declared.rows.Share.{Share}
 use Rattle.draw.specs.declared.rows.By.{By}
@@ -80,13 +80,6 @@ heft_back (s ∷ ss) = ap (λ n. s.weight + n) (heft_back ss)
 pub heft_same : (xs ys : List Share) → all_back xs ≡ all_back ys → heft xs ≡ heft ys
 heft_same xs ys e = sym (heft_back xs) ∙ ap heft e ∙ heft_back ys
 
--- one step of the search for the row: it ends here, or goes on
-pub reach_hit : (by : By) (sum : ℕ) (s : Share) (ss : List Share) (x : ℕ) → x < sum + part by s → reach by sum (s ∷ ss) x ≡ 0
-reach_hit by sum s ss x h = cond-true (ltb x (sum + part by s)) _ _ (lt-ltb x (sum + part by s) h)
-
-pub reach_miss : (by : By) (sum : ℕ) (s : Share) (ss : List Share) (x : ℕ) → sum + part by s ≤ x → reach by sum (s ∷ ss) x ≡ suc (reach by (sum + part by s) ss x)
-reach_miss by sum s ss x h = cond-false (ltb x (sum + part by s)) _ _ (le-ltb x (sum + part by s) h)
-
 pub pick_some : (xs : List Share) (retries : ℕ) (w : ℕ → ℕ) (by : By) (x p : ℕ) → 0 < total Head xs → by ≡ manner_of retries w → x ≡ drawn (total by xs) (rest (retries + 4) w) → p ≡ reach by 0 xs x → Some p ≡ pick xs retries w
 pick_some xs retries w by x p some e-by e-x e-p =
     ap Some (e-p ∙ ap (reach by 0 xs) e-x ∙ ap (λ b. choice b xs (rest (retries + 4) w)) e-by)
@@ -129,11 +122,6 @@ heads_length (s ∷ ss) =
       | false ↦ cond_both (eqb s.weight 0) 0 1 (λ n. n ≤ 1) (λ _. omega arith) (λ _. omega arith)
     ]) in
     omega (arith, one, heads_length ss)
-
-pub without_past : (xs : List Share) (p : ℕ) → length xs ≤ p → without xs p ≡ xs
-without_past [] p h = refl
-without_past (s ∷ ss) zero h = absurd (omega arith)
-without_past (s ∷ ss) (suc p) h = ap (λ l. s ∷ l) (without_past ss p (omega arith))
 
 -- the counts of the rows left are what they count for, in either manner
 pub left_total : (by : By) (l : Left) (xs : List Share) → l.weight ≡ total Weight xs → l.heads ≡ total Head xs → left_by by l ≡ total by xs

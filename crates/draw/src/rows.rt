@@ -3,21 +3,22 @@ ghost use Rattle.std.specs.Prelude.{◌≡◌, ℕ, ◌^◌, ◌<◌, length};
 ghost use Rattle.draw.specs.Rows.{part, left_by, total, reach, manner, without, all_back, heft};
 
 // A row of the shared weights; `aside` while a draw has it out.
-#[derive(Clone, Copy)]
+#[derive(Clone, Copy, Debug, PartialEq, Eq)]
 pub struct Share {
     pub weight: u64,
     pub aside: bool,
 }
 
-// A pick goes by weight, or counts each row left as one.
-#[derive(Clone, Copy)]
+// A pick goes by weight, or counts each row left as one. A word drawn says which: closures for the two would be told
+// apart by the same match.
+#[derive(Clone, Copy, Debug, PartialEq, Eq)]
 pub enum By {
     Weight,
     Head,
 }
 
 // What the rows left count for together, in either manner.
-#[derive(Clone, Copy)]
+#[derive(Clone, Copy, Debug, PartialEq, Eq)]
 pub struct Left {
     pub weight: u64,
     pub heads: u64,
@@ -43,11 +44,11 @@ fn part_of(share: Share, by: By) -> u64
     }
     match by {
         By::Weight => share.weight,
-        By::Head => if share.weight == 0 { 0 } else { 1 },
+        By::Head => share.weight.min(1),
     }
 }
 
-// What the rows left count for together.
+// What the rows left count for together, both in one pass: two sums of a chain would make two.
 pub(crate) fn left_of(shares: &[Share]) -> Left
     requires { heft shares.now < 2 ^ 64 }
     ensures weight { result.weight ≡ total By.Weight shares.now }
@@ -62,21 +63,22 @@ pub(crate) fn left_of(shares: &[Share]) -> Left
     Left { weight, heads }
 }
 
-// The first row whose running sum exceeds `x`.
+// The first row whose running sum exceeds `x`: what is left of `x` after the rows before it is less than its part. By
+// `position`, a closure would have to change what is left.
 pub(crate) fn place_of(shares: &[Share], by: By, x: u64) -> usize
-    requires fits { heft shares.now < 2 ^ 64 }
-    requires within { x < total by shares.now }
+    requires { x < total by shares.now }
     ensures value { result ≡ reach by 0 shares.now x }
     ensures within { result < length shares.now }
 {
-    let mut sum: u64 = 0;
+    let mut left = x;
     for (i, s) in shares.iter().enumerate() {
-        sum += part_of(*s, by);
-        if x < sum {
+        let part = part_of(*s, by);
+        if left < part {
             return i;
         }
+        left -= part;
     }
-    unreachable()
+    unreachable!()
 }
 
 // By weight under 4.

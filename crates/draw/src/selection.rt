@@ -1,36 +1,23 @@
 // The draw without replacement: rows drawn are set aside until it ends.
 ghost use Rattle.std.specs.Prelude.{◌≡◌, ℕ, ◌+◌, ◌^◌, ◌<◌, ◌≤◌, [], length, is_ok, IfOk, if◌then◌else◌, vec_len, vec_capacity};
-ghost use Rattle.draw.specs.Rows.{pick, rows_after, without, words_after, Fewer, Around, all_back, heft};
+ghost use Rattle.draw.specs.Rows.{pick, rows_after, without, words_after, Fewer, Around, all_back, heft, manner_of};
+ghost use Rattle.draw.specs.Words.{rest};
 ghost use Rattle.draw.specs.Order.{order, order_words, Once};
 
-use crate::rows::{Share, left_of, manner_of, place_of, put_back, set_aside};
+use crate::rows::{By, Share, left_of, manner_of, place_of, put_back, set_aside};
 use crate::words::{DrawSource, below};
 use std::alloc::{AllocError, Global};
 
-// Picks a row of those left, and sets it aside.
-fn draw_row<D: DrawSource>(shares: &mut [Share], source: &mut D, retries: u32) -> Option<usize>
-    requires { heft shares.old < 2 ^ 64 }
-    ensures place { result ≡ pick shares.old retries (D.ahead source.old) }
-    ensures rows { shares.new ≡ rows_after shares.old result }
-    ensures words { D.ahead source.new ≡ words_after shares.old retries (D.ahead source.old) }
-    ensures back { all_back shares.new ≡ all_back shares.old }
-    ensures weight { heft shares.new ≡ heft shares.old }
-    ensures fewer { Fewer shares.old shares.new result }
-    ensures around { Around shares.old retries (D.ahead source.old) result }
+// Draws the manner of a pick.
+fn drawn_manner<D: DrawSource>(source: &mut D, retries: u32) -> By
+    ensures value { result ≡ manner_of retries (D.ahead source.old) }
+    ensures after { D.ahead source.new ≡ rest (retries + 4) (D.ahead source.old) }
 {
-    let left = left_of(shares);
-    if left.heads == 0 {
-        return None;
-    }
-    let by = manner_of(below(source, u64::from(retries) + 4));
-    let sum = left.by(by);
-    let x = below(source, sum);
-    let place = place_of(shares, by, x);
-    set_aside(shares, place);
-    Some(place)
+    manner_of(below(source, u64::from(retries) + 4))
 }
 
-// A draw over the shared weights: it borrows them, and whichever way it ends, every row is back.
+// A draw over the shared weights: it borrows them, and whichever way it ends, every row is back. That all weights
+// together are below 2^64 is asked at each draw, since no type can carry it: making a selection asks nothing.
 pub struct Selection<'a> {
     shares: &'a mut [Share],
 }
@@ -64,7 +51,17 @@ impl<'a> Selection<'a> {
         ensures around { Around self.old.shares.now retries (D.ahead source.old) result }
         ensures lender { self.new.shares.ghost_name ≡ self.old.shares.ghost_name }
     {
-        draw_row(self.shares, source, retries)
+        let shares = &mut *self.shares;
+        let left = left_of(shares);
+        if left.heads == 0 {
+            return None;
+        }
+        let by = drawn_manner(source, retries);
+        let sum = left.by(by);
+        let x = below(source, sum);
+        let place = place_of(shares, by, x);
+        set_aside(shares, place);
+        Some(place)
     }
 
     // Sets one row aside without a draw; past the rows nothing changes.
@@ -76,7 +73,7 @@ impl<'a> Selection<'a> {
     }
 }
 
-// Draws until no row is left, and lists the places.
+// Draws until no row is left, and lists the places. It stands apart from `order_of`, whose proof so has no part by hand.
 fn draw_all<D: DrawSource>(
     places: &mut Vec<usize>,
     shares: &mut [Share],

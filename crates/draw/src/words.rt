@@ -3,6 +3,9 @@ ghost use Rattle.std.specs.Prelude.{◌≡◌, ℕ, ◌^◌, ◌<◌};
 ghost use Rattle.draw.specs.Words.{later, drawn, rest, listed, stepped, states, seeded};
 ghost use Rattle.std.proofs.Common.{rules};
 ghost use Rattle.draw.specs.Fits.{states_fit};
+ghost use Rattle.std.specs.Vec.Iter.{into_iter_items};
+
+use std::vec::IntoIter;
 
 pub trait DrawSource {
     // the words ahead
@@ -25,44 +28,30 @@ pub(crate) fn below<D: DrawSource>(source: &mut D, n: u64) -> u64
     source.word() % n
 }
 
-// The word at a place of a list, or zero past its end.
-fn word_at(words: &[u64], at: usize) -> u64
-    ensures { result ≡ listed words.now at 0 }
-{
-    if at < words.len() { words[at] } else { 0 }
-}
-
-// The place of the next word; past the end it stays, since only zeros follow.
-fn place_after(words: &[u64], at: usize) -> usize
-    ensures { listed words.now result ≡ later (listed words.now at) }
-{
-    if at < words.len() { at + 1 } else { at }
-}
-
 // A supplied list of words, then zeros for ever.
 #[derive(Drop)]
 pub struct Supplied {
-    words: Vec<u64>,
-    at: usize,
+    words: IntoIter<u64>,
 }
 
 impl Supplied {
     pub fn new(words: Vec<u64>) -> Supplied
-        ensures { listed result.words.items result.at ≡ listed words.items 0 }
+        ensures { listed (into_iter_items result.words) 0 ≡ listed words.items 0 }
     {
-        Supplied { words, at: 0 }
+        Supplied {
+            words: words.into_iter(),
+        }
     }
 }
 
 impl DrawSource for Supplied {
-    ghost ahead = { λ s. listed s.words.items s.at };
+    ghost ahead = { λ s. listed (into_iter_items s.words) 0 };
 
     ghost fits = { Prim.search rules };
 
+    #[tactic(auto, using(crate::proofs::Listed::after_some, crate::proofs::Listed::after_none))]
     fn word(&mut self) -> u64 {
-        let word = word_at(self.words.as_slice(), self.at);
-        self.at = place_after(self.words.as_slice(), self.at);
-        word
+        self.words.next().unwrap_or(0)
     }
 }
 

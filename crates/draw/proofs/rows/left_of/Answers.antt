@@ -1,5 +1,5 @@
 use Rattle.std.proofs.Common.{arith}
-use Rattle.std.proofs.lemmas.List.{at_drop_more, at_drop_all}
+use Rattle.std.proofs.lemmas.List.{at_drop_more}
 use Rattle.draw.specs.declared.rows.By.TheVariants.{Weight, Head}
 use Rattle.draw.specs.Rows.{total, nobody}
 use Rattle.draw.proofs.Picks.{total_le}
@@ -14,15 +14,3 @@ pub overflow_add-heads : goal.overflow_add-heads
 overflow_add-heads c =
     let step = at_drop_more (total Head) c.args.shares.now c.loop-s.s-index nobody (omega arith) in
     omega (arith, step, total_le Head c.args.shares.now)
-
-pub loop-s-preserved : goal.loop-s-preserved
-loop-s-preserved c =
-    let weight = at_drop_more (total Weight) c.args.shares.now c.loop-s.s-index nobody (omega arith) in
-    let heads = at_drop_more (total Head) c.args.shares.now c.loop-s.s-index nobody (omega arith) in
-    (omega (arith, weight), omega (arith, heads))
-
-pub returns : goal.returns
-returns c =
-    let weight = at_drop_all (total Weight) c.args.shares.now c.loop-s.s-index (omega arith) in
-    let heads = at_drop_all (total Head) c.args.shares.now c.loop-s.s-index (omega arith) in
-    record { weight = omega (arith, weight); heads = omega (arith, heads) }

@@ -1,49 +1,44 @@
-use Rattle.std.proofs.Common.{◌≡◌, ◌+◌, ◌<◌, sym, ap, ◌∙◌, subst, arith}
+use Rattle.std.proofs.Common.{◌≡◌, ◌+◌, ◌<◌, sym, ap, ◌∙◌, subst, arith, rules}
 use Rattle.draw.specs.declared.rows.By.TheVariants.{Head}
 use Rattle.draw.specs.Words.{drawn, rest}
-use Rattle.draw.specs.Rows.{total, manner, manner_of, without, all_back, Spans}
+use Rattle.draw.specs.Rows.{total, without, all_back, Spans}
 use Rattle.draw.specs.Fits.{drawn_below}
 use Rattle.draw.proofs.Picks.{left_total, some_left, pick_some, words_some, fewer_left, back_without, heft_same, running}
-use Rattle.draw.proofs.selection.draw_row.Goals as goal
+use Rattle.draw.proofs.selection.Selection.next.Goals as goal
 
 pub below-x-requires : goal.below-x-requires
 below-x-requires g c =
-    let by = c.manner_of-by.result in
+    let by = c.drawn_manner-by.result in
     let l = c.left_of-left in
     omega (
       arith,
-      some_left by c.args.shares.now (omega (arith, l.ensures.heads)),
+      some_left by c.args.self.now.shares.now (omega (arith, l.ensures.heads)),
       c.by-sum.ensures,
-      left_total by l.result c.args.shares.now l.ensures.weight l.ensures.heads,
+      left_total by l.result c.args.self.now.shares.now l.ensures.weight l.ensures.heads,
     )
 
 pub place_of-place-requires : goal.place_of-place-requires
 place_of-place-requires g c =
-    let by = c.manner_of-by.result in
+    let by = c.drawn_manner-by.result in
     let l = c.left_of-left in
-    let sum : c.by-sum.result ≡ total by c.args.shares.now =
-    c.by-sum.ensures ∙ left_total by l.result c.args.shares.now l.ensures.weight l.ensures.heads in
-    let some = some_left by c.args.shares.now (omega (arith, l.ensures.heads)) in
-    record {
-      fits = c.requires;
-      within = omega (arith, sum, drawn_below c.by-sum.result (g.D.DrawSource.ahead c.below.new.source) (omega (arith, sum, some)));
-    }
+    let sum : c.by-sum.result ≡ total by c.args.self.now.shares.now =
+    c.by-sum.ensures ∙ left_total by l.result c.args.self.now.shares.now l.ensures.weight l.ensures.heads in
+    let some = some_left by c.args.self.now.shares.now (omega (arith, l.ensures.heads)) in
+    omega (arith, sum, drawn_below c.by-sum.result (g.D.DrawSource.ahead c.drawn_manner-by.new.source) (omega (arith, sum, some)))
 
 pub returns : goal.returns
 returns g c =
-    let xs = c.args.shares.now in
+    let xs = c.args.self.now.shares.now in
     let w = g.D.DrawSource.ahead c.args.source.now in
     let v = rest (c.args.retries + 4) w in
-    let by = c.manner_of-by.result in
+    let by = c.drawn_manner-by.result in
     let l = c.left_of-left in
     let x = c.below-x.result in
     let p = c.place_of-place.result in
     let heads : 0 < total Head xs = omega (arith, l.ensures.heads) in
     let some = some_left by xs heads in
-    let first : by ≡ manner_of c.args.retries w =
-    c.manner_of-by.ensures ∙ ap manner (c.below.ensures.value ∙ ap (λ n. drawn (n + 4) w) c.from.ensures) in
-    let ahead : g.D.DrawSource.ahead c.below.new.source ≡ v =
-    c.below.ensures.after ∙ ap (λ n. rest (n + 4) w) c.from.ensures in
+    let first = c.drawn_manner-by.ensures.value in
+    let ahead = c.drawn_manner-by.ensures.after in
     let sum : c.by-sum.result ≡ total by xs =
     c.by-sum.ensures ∙ left_total by l.result xs l.ensures.weight l.ensures.heads in
     let second : x ≡ drawn (total by xs) v =
@@ -67,4 +62,5 @@ returns g c =
             ∙ fewer_left by xs x p within c.place_of-place.ensures.value c.place_of-place.ensures.within,
       );
       around = subst (λ b. Spans b xs (drawn (total b xs) v) p) first (subst (λ n. Spans by xs n p) second here);
+      lender = search rules;
     }
