@@ -31,8 +31,8 @@ impl Hall {
         }
     }
 
-    // Obeys a call, and writes its answer. Kept as four arms, here and below: each has a house of another type, a closure
-    // takes only one, and a dyn value may not be handed out.
+    // Obeys a call, and writes its answer. Kept as four arms, here and below: each has a house of another type, a
+    // closure takes only one, and a dyn value may not be handed out.
     fn obey(
         &mut self,
         watch: &mut Watch<'_>,
