@@ -24,7 +24,8 @@ use Rattle.model.specs.Laws.{First}
 use Rattle.model.specs.Fetches.{aims, queue, sent_in}
 use Rattle.model.specs.Calls.{row_of}
 use Rattle.model.specs.Sends.{Orderly, out_row, Queues, SendsFirst, MovesOne}
-use Rattle.model.proofs.Queues.{queue_lawful, listing_up, listed, origin}
+use Rattle.live.proofs.Laws.{queue_lawful}
+use Rattle.model.proofs.Queues.{listing_up, listed, origin}
 
 -- ---- places in a list
 in_nth : {X : Type 0} (x : X) (xs : List X) → In x xs → (j : ℕ) × (slice_get xs j ≡ Some x)

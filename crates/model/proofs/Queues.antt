@@ -1,36 +1,18 @@
 -- The listing of the queue: each queued key once, in queue order.
 use Rattle.std.proofs.Common.{◌≡◌, ℕ, suc, ◌+◌, ◌<◌, ◌≤◌, cond, ◌⊎◌, List, [], ◌∷◌, length, is_some, Some, None, Option, sym, refl, ap, ◌∙◌, subst, inl, inr, ⊎_elim, arith}
 use Rattle.std.proofs.lemmas.Bool.{cond_both}
-use Rattle.kinds.specs.Order.{by_number}
 use Rattle.kinds.specs.declared.ordered.Ordered.{Ghosts as Order}
 use Rattle.kinds.specs.declared.pair.Pair.{Pair}
-use Rattle.kinds.specs.Lex.{then_joined, then_equal, then_reversed, number_same, number_reflexive, number_turned, number_joined}
 use Rattle.tables.specs.Rows.{Lawful, Ascending, In, lookup, put}
 use Rattle.tables.specs.Tables.{Tab, with_rows, fits, put_in}
-use Rattle.tables.proofs.Lawfuls.{pair_lawful}
 use Rattle.tables.proofs.Laws.{ascending_put, lookup_put_same, length_put}
 use Rattle.tables.proofs.Finds.{lookup_put}
 use Rattle.tables.proofs.Room.{room_fits, put_in_is}
 use Rattle.live.specs.declared.row.KeyRow.{KeyRow}
 use Rattle.live.specs.declared.queue.Turn.{Turn}
 use Rattle.live.specs.declared.queue.QueueRow.{QueueRow}
-use Rattle.live.specs.Queues.{by_turn, by_queue, turn_of, queue_row, enqueued, queue_on}
-
--- ---- the order of the queue is total
-turn : ℕ → ℕ → Turn
-turn a b = record { round = a; deadline = b }
-
-pub turn_lawful : Lawful by_turn
-unfolding turn
-turn_lawful = record {
-  same = λ x y h. let t = then_equal _ _ h in let f : x.round ≡ y.round = number_same _ _ t.0 in let g : x.deadline ≡ y.deadline = number_same _ _ t.1 in ap (λ i. turn i x.deadline) f ∙ ap (λ j. turn y.round j) g;
-  reflexive = λ x. rw (number_reflexive x.round, number_reflexive x.deadline) refl;
-  turned = λ x y. rw (number_turned x.round y.round, number_turned x.deadline y.deadline) (then_reversed (by_number x.round y.round) (by_number x.deadline y.deadline));
-  joined = λ x y z h l. then_joined by_number number_same number_joined x.round y.round z.round _ _ _ _ _ refl refl (number_joined x.deadline y.deadline z.deadline) h l;
-}
-
-pub queue_lawful : {K : Type 0} (k : Order K) → Lawful k.order → Lawful (by_queue k)
-queue_lawful k o = pair_lawful (record { order = by_turn }) k turn_lawful o
+use Rattle.live.proofs.Laws.{queue_lawful}
+use Rattle.live.specs.Queues.{by_queue, turn_of, queue_row, enqueued, queue_on}
 
 module _ {K : Type 0} (k : Order K) (o : Lawful k.order) where
   abbrev Up : Tab (QueueRow K) → Type 0

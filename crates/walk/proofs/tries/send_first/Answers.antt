@@ -12,26 +12,6 @@ use Rattle.model.proofs.Leasts.{least_heard}
 use Rattle.model.proofs.Wholes.{tries_same}
 use Rattle.walk.proofs.tries.send_first.Goals as goal
 
-pub invariant_of-roster : goal.invariant_of-roster
-invariant_of-roster g c =
-    let r = c.args.roster.now in
-    let after = c.walk.new.shares in
-    let long : length after ≡ r.shares.len = ap length c.walk.ensures.shares ∙ c.as_mut_slice.ensures.len in
-    let same = take_at after (drop (length after) r.shares.items) r.shares.len long
-    ∙ c.walk.ensures.shares ∙ c.as_mut_slice.ensures.value in
-    record {
-      few = r.few;
-      within = r.within;
-      beside = r.beside;
-      rows_reserved = r.rows_reserved;
-      shares_reserved = r.shares_reserved;
-      spare_reserved = r.spare_reserved;
-      spare_empty = r.spare_empty;
-      light = subst (λ l. heaviest l ≤ 1048576000000001) (sym same) r.light;
-      fits = subst (λ l. heft l < 2 ^ 64) (sym same) r.fits;
-      back = ap all_back same ∙ r.back ∙ sym same;
-    }
-
 pub returns : goal.returns
 returns g c =
     let r = c.args.roster.now in
@@ -40,21 +20,21 @@ returns g c =
     let aim = aims g.P.Ordered g.K.Ordered (tab_of c.args.targets.now.table).rows in
     let w = g.D.DrawSource.ahead c.args.source.now in
     let after = c.walk.new.shares in
-    let long : length after ≡ r.shares.len = ap length c.walk.ensures.shares ∙ c.as_mut_slice.ensures.len in
-    let same = take_at after (drop (length after) r.shares.items) r.shares.len long
+    let long : length after ≡ r.shares.rows.len = ap length c.walk.ensures.shares ∙ c.as_mut_slice.ensures.len in
+    let same = take_at after (drop (length after) r.shares.rows.items) r.shares.rows.len long
     ∙ c.walk.ensures.shares ∙ c.as_mut_slice.ensures.value in
     let e = c.walk.ensures.told
-    ∙ tries_same word c.args.time _ (vec_items r.rows) (tab_of k.table).rows aim _ (vec_items r.shares) _ (tab_of k.queue).rows w c.args.next.now
-    c.as_slice.ensures.value c.as_mut_slice.ensures.value c.rows.ensures in
+    ∙ tries_same word c.args.time _ (vec_items r.peers.rows) (tab_of k.table).rows aim _ (vec_items r.shares.rows) _ (tab_of k.queue).rows w c.args.next.now
+    c.rows-2.ensures c.as_mut_slice.ensures.value c.rows.ensures in
     let sent = ap (λ (f : Fetched g.row.P.Denot g.row.K.Denot). f.sent) e in
-    let level : length (vec_items r.rows) ≡ length (vec_items r.shares) = omega (arith, r.rows.ok.0, r.shares.ok.0, r.beside) in
+    let level : length (vec_items r.peers.rows) ≡ length (vec_items r.shares.rows) = sym r.beside in
     record {
-      roster = ap (λ (l : List Share). record { peers = record { engine = r.engine; most = r.most; rows = vec_items r.rows }; shares = l }) same;
+      roster = ap (λ (l : List Share). record { peers = tab_of r.peers; shares = l }) same;
       told = e;
       unused = c.walk.ensures.unused;
       link = c.walk.ensures.link;
-      first = subst (First word c.args.time (vec_items r.rows) aim (vec_items r.shares) (tab_of k.queue).rows) (sym sent)
-          (first word c.args.time (vec_items r.rows) (tab_of k.table).rows aim (vec_items r.shares) r.back level (tab_of k.queue).rows w c.args.next.now limit None false);
-      quiet = subst (Quiet word c.args.time (vec_items r.rows) aim (vec_items r.shares) (tab_of k.queue).rows c.walk.result.sent) (sym (ap (λ (f : Fetched g.row.P.Denot g.row.K.Denot). f.wait) e))
-          (least_heard word c.args.time (vec_items r.rows) (tab_of k.table).rows aim (vec_items r.shares) r.back level (tab_of k.queue).rows w c.args.next.now limit c.walk.result.sent (sym sent));
+      first = subst (First word c.args.time (vec_items r.peers.rows) aim (vec_items r.shares.rows) (tab_of k.queue).rows) (sym sent)
+          (first word c.args.time (vec_items r.peers.rows) (tab_of k.table).rows aim (vec_items r.shares.rows) r.shares.back level (tab_of k.queue).rows w c.args.next.now limit None false);
+      quiet = subst (Quiet word c.args.time (vec_items r.peers.rows) aim (vec_items r.shares.rows) (tab_of k.queue).rows c.walk.result.sent) (sym (ap (λ (f : Fetched g.row.P.Denot g.row.K.Denot). f.wait) e))
+          (least_heard word c.args.time (vec_items r.peers.rows) (tab_of k.table).rows aim (vec_items r.shares.rows) r.shares.back level (tab_of k.queue).rows w c.args.next.now limit c.walk.result.sent (sym sent));
     }
