@@ -23,11 +23,8 @@ impl<K: Ordered, P: Ordered> LiveKeys<K, P> {
     pub fn next_queued(&self, last: QueueRow<K>) -> Option<QueueRow<K>>
         ensures { result ≡ next_queued K.Ordered.own last (tab_of self.now.table).rows }
     {
-        best(
-            self.table.rows(),
-            |row| queued_after(row, &last),
-            comes_before,
-        )
+        let rows = self.table.rows();
+        best(rows, |row| queued_after(row, &last), comes_before)
     }
 
     // Lists the whole queue, in its order.
@@ -42,11 +39,8 @@ impl<K: Ordered, P: Ordered> LiveKeys<K, P> {
     pub fn first_out(&self, timeout: u64) -> Option<Request<K, P>>
         ensures { result ≡ earliest timeout (tab_of self.now.table).rows }
     {
-        best(
-            self.table.rows(),
-            |row| request_of(row, timeout),
-            comes_sooner,
-        )
+        let rows = self.table.rows();
+        best(rows, |row| request_of(row, timeout), comes_sooner)
     }
 
     // The key that is out under an id at a peer, with its start.

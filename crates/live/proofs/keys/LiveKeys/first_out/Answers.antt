@@ -4,4 +4,4 @@ use Rattle.tables.proofs.Computed.{best_is}
 use Rattle.live.proofs.keys.LiveKeys.first_out.Goals as goal
 
 pub returns : goal.returns
-returns g c = best_is _ (out_of c.args.timeout) sooner c.best.ensures c.rows.ensures (λ a r f k. search rules) (λ a r f k. search rules)
+returns g c = best_is _ (out_of c.args.timeout) sooner c.best.ensures c.rows-rows.ensures (λ a r f k. search rules) (λ a r f k. search rules)
