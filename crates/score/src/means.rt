@@ -3,7 +3,7 @@ ghost use Rattle.std.specs.Prelude.{◌*◌, ◌≤◌};
 ghost use Rattle.score.specs.Bounds.{most_bytes, most_time, fraction};
 
 // The mean of lengths in bytes times 2^32, and the mean of times in nanoseconds.
-#[derive(Clone, Copy)]
+#[derive(Clone, Copy, Debug, PartialEq, Eq)]
 pub struct Means {
     pub size: u64,
     pub time: u64,

@@ -19,7 +19,7 @@ const FRACTION: u64 = 4_294_967_296;
 const NANOSECONDS: u64 = 1_000_000_000;
 
 // A fresh score has no means yet.
-#[derive(Clone, Copy)]
+#[derive(Clone, Copy, Debug, PartialEq, Eq)]
 pub struct Score {
     pub means: Option<Means>,
 }
@@ -51,7 +51,7 @@ fn scaled_size(size: u64) -> u64
 fn charged_time(elapsed: u64) -> u64
     ensures { result ≡ charged elapsed }
 {
-    elapsed.min(MOST_TIME).max(1)
+    elapsed.clamp(1, MOST_TIME)
 }
 
 // The means that the first record sets.

@@ -12,7 +12,7 @@ mod outcome;
 pub use outcome::Outcome;
 
 // Sends a key twice to a peer, under an id and the next one, and checks again before the second send, where it may be
-// told to wait.
+// told to wait. Both passes stand here by name: the programs that must not compile use one of them wrongly.
 pub fn send_twice<P: Ordered, K: Ordered, L: Link<P, K>>(
     link: &mut L,
     peer: P,
@@ -53,28 +53,25 @@ mod tests {
 
     // Two sends at the time 10 to one station over new lanes.
     fn tried(spacing: u64) -> Result<Outcome, Fail> {
-        match Lanes::<Seat>::new(spacing) {
-            Ok(mut lanes) => Ok(send_twice(&mut lanes, Station(4), 10, 1, SEAT)),
-            Err(_) => Err(Fail::new("the spacing is too long")),
-        }
+        let mut lanes = Lanes::<Seat>::new(spacing).map_err(|_| Fail::new(
+            "the spacing is too long",
+        ))?;
+        Ok(send_twice(&mut lanes, Station(4), 10, 1, SEAT))
     }
 
     #[test]
     fn is_told_to_wait(rt: HostRuntime) -> Result<(), Fail> {
-        match tried(5)? {
-            Outcome::First(until) => {
-                assert_eq!(rt; until, Some(15));
-                Ok(())
-            },
-            _ => Err(Fail::new("the first is accepted, and the second waits")),
-        }
+        assert_eq!(rt;
+            tried(5)?,
+            Outcome::First(Some(15)),
+            "the first is accepted, and the second waits"
+        );
+        Ok(())
     }
 
     #[test]
-    fn is_taken_twice() -> Result<(), Fail> {
-        match tried(0)? {
-            Outcome::Both => Ok(()),
-            _ => Err(Fail::new("both are accepted")),
-        }
+    fn is_taken_twice(rt: HostRuntime) -> Result<(), Fail> {
+        assert_eq!(rt; tried(0)?, Outcome::Both, "both are accepted");
+        Ok(())
     }
 }
