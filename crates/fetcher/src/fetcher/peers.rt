@@ -67,10 +67,11 @@ impl<P: Ordered, V: Rating, K: Ordered> Fetcher<P, V, K> {
         if !self.blocked.fill(list) {
             return false;
         }
-        self.roster.weigh(Excluded {
+        let excluded = Excluded {
             own: self.own,
             blocked: &self.blocked,
-        });
+        };
+        self.roster.weigh(excluded);
         self.waiter = None;
         true
     }

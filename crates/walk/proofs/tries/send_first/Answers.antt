@@ -1,9 +1,7 @@
-use Rattle.std.proofs.Common.{◌≡◌, ◌^◌, ◌<◌, ◌≤◌, false, List, length, drop, None, vec_items, sym, ap, ◌∙◌, subst, arith}
+use Rattle.std.proofs.Common.{◌≡◌, false, List, length, drop, None, vec_items, sym, ap, ◌∙◌, subst}
 use Rattle.std.proofs.lemmas.List.{take_at}
 use Rattle.draw.specs.declared.rows.Share.{Share}
-use Rattle.draw.specs.Rows.{all_back, heft}
 use Rattle.tables.specs.Tables.{tab_of}
-use Rattle.roster.specs.Weights.{heaviest}
 use Rattle.model.specs.Tries.{Fetched, limit}
 use Rattle.model.specs.Fetches.{aims}
 use Rattle.model.specs.Laws.{First, Quiet}
