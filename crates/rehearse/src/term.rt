@@ -1,7 +1,6 @@
 // How a script writes numbers, stations, public keys, keys and lists of them.
 use crate::fault::Fault;
 use crate::show::Show;
-use hex::FromHex;
 use kinds::{Bytes32, Named, Ordered, Seat, Station};
 use std::alloc::Global;
 use std::str::FromStr;
@@ -31,9 +30,26 @@ where
     number(text).ok_or(Fault::Expected(expected))
 }
 
+// Two hexadecimal digits.
+fn byte(pair: &[u8]) -> Option<u8> {
+    let [high, low] = pair else {
+        return None;
+    };
+    let high = char::from(*high).to_digit(16)?;
+    let low = char::from(*low).to_digit(16)?;
+    u8::try_from(high.wrapping_mul(16).wrapping_add(low)).ok()
+}
+
 // 64 hexadecimal digits.
 fn bytes32(text: &str) -> Option<Bytes32> {
-    let bytes = <[u8; 32] as FromHex>::from_hex(text).ok()?;
+    let digits = text.as_bytes();
+    if digits.len() != 64 {
+        return None;
+    }
+    let mut bytes = [0u8; 32];
+    for (place, pair) in bytes.iter_mut().zip(digits.chunks_exact(2)) {
+        *place = byte(pair)?;
+    }
     Some(Bytes32::new(bytes))
 }
 
