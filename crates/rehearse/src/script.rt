@@ -132,6 +132,7 @@ fn list_of<L: Wired, R: Rating>(
     Ok(peers)
 }
 
+// Each call is a function over the house and the words of its line, which mean something else at each.
 fn reconcile<L: Wired, R: Rating>(
     watch: &mut Watch<'_>,
     house: &mut House<L, R>,

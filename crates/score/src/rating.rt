@@ -3,7 +3,7 @@ ghost use Rattle.std.specs.Prelude.{◌≡◌, ℕ, ◌≤◌};
 ghost use Rattle.score.specs.Bounds.{most_weight};
 
 // A rating means its weight, from 1 to the greatest weight. A fresh one weighs 1; recording an elapsed time in
-// nanoseconds and a length in bytes may give another.
+// nanoseconds and a length in bytes may give another: two numbers, as the port's own `record` takes them.
 pub trait Rating: Copy {
     ghost weighs: { Self → ℕ };
 

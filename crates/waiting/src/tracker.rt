@@ -23,7 +23,7 @@ pub struct Subscribers<K: Ordered, S: Ordered> {
 }
 
 impl<K: Ordered, S: Ordered> Subscribers<K, S> {
-    // Nobody waits, with memory for 1 to 4,096 pairs.
+    // Nobody waits, with memory for 1 to 4,096 pairs. One line of its own, as each table with its bound has.
     pub fn new(heap: Global, engine: u32, most: usize) -> Result<Subscribers<K, S>, TableError>
         ensures { MadeSubscribers engine most result }
     {

@@ -49,7 +49,8 @@ impl<P: Ordered, V: Rating, K: Ordered> Fetcher<P, V, K> {
         self.keys.table.len()
     }
 
-    // How many keys are queued.
+    // How many keys are queued. This count and the next differ in one pattern, which a function for both would have to be
+    // given as a closure.
     pub fn len_pending(&self) -> usize
         ensures { result ≡ count_in yes (fet_of self.now).keys.rows }
     {

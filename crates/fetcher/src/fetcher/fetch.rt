@@ -51,7 +51,8 @@ fn set_out<K: Ordered, P: Ordered>(
 }
 
 impl<P: Ordered, V: Rating, K: Ordered> Fetcher<P, V, K> {
-    // Lists the queue and walks it.
+    // Lists the queue and walks it. The link, the source and the time are the call's own, as the port's fetch takes them; each
+    // function on the way states the promises of `fetch` by their names.
     fn send_next<L: Link<P, K>, D: DrawSource>(
         &mut self,
         link: &mut L,

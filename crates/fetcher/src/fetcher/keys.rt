@@ -93,7 +93,8 @@ impl<P: Ordered, V: Rating, K: Ordered> Fetcher<P, V, K> {
         self.keys.apply(key, Event::Answered { slip })
     }
 
-    // A key under judgement comes under another slip. Answers whether it moved.
+    // A key under judgement comes under another slip. Answers whether it moved. The one function behind this move and the
+    // one before is `apply`.
     pub fn hand_on(&mut self, key: K, slip: u32) -> bool
         ensures answer { result ≡ move_answer K.Ordered.own key (Redelivered slip) (fet_of self.old) }
         ensures state { fet_of self.new ≡ moved K.Ordered.own key (Redelivered slip) (fet_of self.old) }

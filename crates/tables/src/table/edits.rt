@@ -10,7 +10,8 @@ use crate::table::error::TableError;
 use std::alloc::Global;
 
 impl<R: Row> Table<R> {
-    // An empty table with memory for `most` rows, of which there may be 1 to `bound`.
+    // An empty table with memory for `most` rows, of which there may be 1 to `bound`. Here as at each part above, memory,
+    // engine number and rows are given once, at the making: a struct of the three would be made for that call alone.
     pub fn new(heap: Global, engine: u32, most: usize, bound: usize) -> Result<Table<R>, TableError>
         ensures { Made engine most bound result }
     {
