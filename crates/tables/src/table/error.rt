@@ -4,8 +4,6 @@ ghost use Rattle.tables.specs.declared.table.error.TableError.TheVariants.{Memor
 ghost use Rattle.tables.specs.Errors.{number_of};
 
 use std::alloc::AllocError;
-use std::error::Error;
-use std::fmt;
 
 #[derive(Clone, Copy, Debug, PartialEq, Eq)]
 pub enum TableError {
@@ -25,17 +23,6 @@ impl TableError {
         }
     }
 }
-
-impl fmt::Display for TableError {
-    fn fmt<W: fmt::Write>(&self, f: &mut fmt::Formatter<W>) -> fmt::Result {
-        match self {
-            TableError::Rows => write!(f, "a number of rows out of bounds"),
-            TableError::Memory => write!(f, "out of memory"),
-        }
-    }
-}
-
-impl Error for TableError {}
 
 impl From<AllocError> for TableError {
     ghost from_gives = { λ _ e. e ≡ Memory };
