@@ -132,27 +132,21 @@ fn list_of<L: Wired, R: Rating>(
     Ok(peers)
 }
 
-// Each call is a function over the house and the words of its line, which mean something else at each.
-fn reconcile<L: Wired, R: Rating>(
+// Makes a call with the list of its line: `reconcile` or `set_blocked`.
+fn with_list<L: Wired, R: Rating, F: FnOnce(&mut House<L, R>, &[L::Peer]) -> Result<(), Refusal>>(
     watch: &mut Watch<'_>,
     house: &mut House<L, R>,
     words: &[&str],
-) -> Result<Answer<L::Peer>, CallError> {
+    call: F,
+) -> Result<Answer<L::Peer>, CallError>
+    requires { F.IsAlwaysCallable call }
+{
     let list = list_of(house, words)?;
-    watch.time(|| house.reconcile(list.as_slice()))?;
+    watch.time(|| call(house, list.as_slice()))?;
     Ok(Answer::Done)
 }
 
-fn set_blocked<L: Wired, R: Rating>(
-    watch: &mut Watch<'_>,
-    house: &mut House<L, R>,
-    words: &[&str],
-) -> Result<Answer<L::Peer>, CallError> {
-    let list = list_of(house, words)?;
-    watch.time(|| house.set_blocked(list.as_slice()))?;
-    Ok(Answer::Done)
-}
-
+// Each other call is a function over the house and the words of its line, which mean something else at each.
 fn record<L: Wired, R: Rating>(
     house: &mut House<L, R>,
     words: &[&str],
@@ -239,8 +233,8 @@ impl Request<'_> {
         house: &mut House<L, R>,
     ) -> Result<Answer<L::Peer>, CallError> {
         match self.call {
-            Call::Reconcile => reconcile(watch, house, self.words),
-            Call::SetBlocked => set_blocked(watch, house, self.words),
+            Call::Reconcile => with_list(watch, house, self.words, |h, list| h.reconcile(list)),
+            Call::SetBlocked => with_list(watch, house, self.words, |h, list| h.set_blocked(list)),
             Call::Record => Ok(record(house, self.words)?),
             Call::Order => Ok(order(house, self.words)?),
             Call::Check => Ok(check(house, self.words)?),
