@@ -17,7 +17,8 @@ fn drawn_manner<D: DrawSource>(source: &mut D, retries: u32) -> By
 }
 
 // A draw over the shared weights: it borrows them, and whichever way it ends, every row is back. That all weights
-// together are below 2^64 is asked at each draw, since no type can carry it: making a selection asks nothing.
+// together are below 2^64 is asked at each draw: a selection is made over any slice, and a type of slices that carried the
+// fact would ask for it at the making.
 pub struct Selection<'a> {
     shares: &'a mut [Share],
 }
@@ -39,7 +40,8 @@ impl<'a> Selection<'a> {
         Selection { shares }
     }
 
-    // The next row, set aside; none, and no word drawn, once no row is left.
+    // The next row, set aside; none, and no word drawn, once no row is left. The retries come with each draw beside the
+    // source, as in the port: they are the key's, and the selection is the roster's.
     pub fn next<D: DrawSource>(&mut self, source: &mut D, retries: u32) -> Option<usize>
         requires { heft self.old.shares.now < 2 ^ 64 }
         ensures place { result ≡ pick self.old.shares.now retries (D.ahead source.old) }

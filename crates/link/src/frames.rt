@@ -50,8 +50,8 @@ impl Reserved {
         self.put_bytes(&[tag, high, low]);
     }
 
-    // Appends the field of an id. It stands beside `put_field`, since no kind is a plain number: a method for both was tried,
-    // and the proof of a frame did not close.
+    // Appends the field of an id. It stands beside `put_field`, since no kind is a plain number: a method for both was
+    // tried, and the proof of a frame did not close.
     fn put_id(&mut self, id: u64)
         requires { HasRoom (3 + 8) self.old }
         ensures { Grown self.old (field 1 8 (be8 id)) self.new }

@@ -75,7 +75,7 @@ impl<K: Ordered> Lanes<K> {
         self.spacing
     }
 
-    // How many messages were taken, modulo 2^64.
+    // How many messages were taken, modulo 2^64. Each link reads its own tally, here and in `latest`.
     pub fn count(&self) -> u64
         ensures { result ≡ self.now.tally.count }
     {

@@ -43,6 +43,14 @@ impl From<TableError> for Fault {
     }
 }
 
+impl From<link::Refusal> for Fault {
+    fn from(refusal: link::Refusal) -> Fault {
+        match refusal {
+            link::Refusal::Spacing => Fault::Expected("a spacing of at most an hour"),
+        }
+    }
+}
+
 impl Fault {
     // The error that names the line.
     pub(crate) fn at(self, line: usize) -> LineFault {

@@ -118,7 +118,7 @@ const MOST_ROWS: Rows = Rows {
 };
 
 impl Rows {
-    // Six numbers between commas.
+    // Six numbers between commas. What was expected is said by who asks, as for `source_of`, which wants memory.
     fn read(text: &str) -> Option<Rows> {
         let mut numbers = text.split(',').map(|part| number(part));
         let rows = Rows {

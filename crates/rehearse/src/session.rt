@@ -59,7 +59,7 @@ impl fmt::Display for Hall {
     }
 }
 
-// Obeys a call, and writes its answer.
+// Obeys a call, and writes its answer to the block of its line.
 fn answer<L: Wired, R: Rating>(
     watch: &mut Watch<'_>,
     house: &mut House<L, R>,

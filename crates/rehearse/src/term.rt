@@ -30,7 +30,7 @@ where
     number(text).ok_or(Fault::Expected(expected))
 }
 
-// Two hexadecimal digits.
+// Two hexadecimal digits, one by one: `from_str_radix` takes a sign too.
 fn byte(pair: &[u8]) -> Option<u8> {
     let [high, low] = pair else {
         return None;

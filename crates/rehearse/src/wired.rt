@@ -123,13 +123,10 @@ pub(crate) struct LaneLink {
 
 impl LaneLink {
     fn open(heap: Global, spacing: u64) -> Result<LaneLink, Fault> {
-        match Lanes::new(spacing) {
-            Ok(lanes) => Ok(LaneLink {
-                lanes,
-                touched: BTreeSet::new(heap),
-            }),
-            Err(_) => Err(Fault::Expected("a spacing of at most an hour")),
-        }
+        Ok(LaneLink {
+            lanes: Lanes::new(spacing)?,
+            touched: BTreeSet::new(heap),
+        })
     }
 
     fn lane_at(&self, station: u32) -> LaneAt {

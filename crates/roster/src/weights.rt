@@ -14,7 +14,8 @@ use kinds::Ordered;
 use score::Rating;
 use std::alloc::{AllocError, Global};
 
-// The shares of at most `most` rows, none set aside. All weights together stay below 2^64.
+// The shares of at most `most` rows, none set aside. All weights together stay below 2^64. That `most` stays is said by each
+// method, since the roster ties it to its table's.
 #[derive(Drop)]
 pub struct Shares {
     most: usize,

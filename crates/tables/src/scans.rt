@@ -30,7 +30,8 @@ fn better<A: Copy, C: FnMut(&A, &A) -> bool>(
     }
 }
 
-// The one of those found in the rows that comes first; of two where neither does, the older one.
+// The one of those found in the rows that comes first; of two where neither does, the older one. A loop and no `fold`, whose
+// closure would have to call both closures and change with them.
 pub fn best<R, A: Copy, F: FnMut(&R) -> Option<A>, C: FnMut(&A, &A) -> bool>(
     rows: &[R],
     mut find: F,

@@ -6,7 +6,8 @@ mod edits;
 pub mod error;
 mod passes;
 
-// Carries the number of its engine. No call after the making asks for memory.
+// Carries the number of its engine. No call after the making asks for memory, so it is no map. Reserved bytes in `link` and
+// the shares in `roster` reserve their memory likewise; each keeps facts of its own and grows in its own way.
 #[derive(Drop)]
 pub struct Table<R: Copy> {
     engine: u32,

@@ -23,7 +23,7 @@ pub fn retain_waited<K: Ordered, S: Ordered, P: Ordered>(
     );
 }
 
-// Keeps the waiting pairs of live keys.
+// Keeps the waiting pairs of live keys. Beside the targets' own below: the tables differ, and where a row has its key.
 pub fn retain_live<K: Ordered, S: Ordered, P: Ordered>(
     waiting: &mut Subscribers<K, S>,
     keys: &LiveKeys<K, P>,

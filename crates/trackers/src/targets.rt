@@ -16,7 +16,8 @@ pub struct Targets<K: Ordered, P: Ordered> {
 }
 
 impl<K: Ordered, P: Ordered> Targets<K, P> {
-    // No targets, with memory for 1 to 4,096 pairs.
+    // No targets, with memory for 1 to 4,096 pairs. A function for this and the subscribers' would take the bound and the
+    // type's name, and be longer.
     pub fn new(heap: Global, engine: u32, most: usize) -> Result<Targets<K, P>, TableError>
         ensures { MadeTargets engine most result }
     {

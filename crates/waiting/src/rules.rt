@@ -9,6 +9,7 @@ use kinds::{Ordered, Seat};
 pub trait Rule<K, S> {
     ghost keeps: { Self → K → S → Flag };
 
+    // A key and a subscriber, here and in the tracker, are what a call is given; a pair of them is a row's key.
     fn keep(&self, key: K, subscriber: S) -> bool
         ensures { result ≡ keeps self.now key subscriber };
 }

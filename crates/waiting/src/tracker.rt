@@ -23,7 +23,8 @@ pub struct Subscribers<K: Ordered, S: Ordered> {
 }
 
 impl<K: Ordered, S: Ordered> Subscribers<K, S> {
-    // Nobody waits, with memory for 1 to 4,096 pairs. One line of its own, as each table with its bound has.
+    // Nobody waits, with memory for 1 to 4,096 pairs. A function for this and the targets' would take the bound and the
+    // type's name, and be longer.
     pub fn new(heap: Global, engine: u32, most: usize) -> Result<Subscribers<K, S>, TableError>
         ensures { MadeSubscribers engine most result }
     {

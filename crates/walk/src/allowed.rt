@@ -41,8 +41,8 @@ fn leave_out<P: Ordered, V: Rating, K: Ordered>(
     }
 }
 
-// Leaves the shares that a key may draw from: its targets' if it is aimed, else all. There is a share for each peer; a
-// struct of the two slices would have to be taken apart for the draw, which borrows the shares alone.
+// Leaves the shares that a key may draw from: its targets' if it is aimed, else all. There is a share for each peer,
+// which the roster's type keeps: the walk takes its two lists apart, since the draw borrows the shares alone.
 pub fn allow<P: Ordered, V: Rating, K: Ordered>(
     shares: &mut [Share],
     peers: &[PeerRow<P, V>],

@@ -8,7 +8,7 @@ use draw::DrawSource;
 use kinds::Ordered;
 use live::LiveKeys;
 
-// The first id from `id` on that is not out.
+// The first id from `id` on that is not out. Ids go up by one and wrap, as in the port.
 fn free_id<K: Ordered, P: Ordered>(keys: &LiveKeys<K, P>, id: u64) -> u64
     ensures value { result ≡ free_id (tab_of keys.now.table).rows id }
     ensures unused { id_out result (tab_of keys.now.table).rows ≡ no }

@@ -51,8 +51,8 @@ fn set_out<K: Ordered, P: Ordered>(
 }
 
 impl<P: Ordered, V: Rating, K: Ordered> Fetcher<P, V, K> {
-    // Lists the queue and walks it. The link, the source and the time are the call's own, as the port's fetch takes them; each
-    // function on the way states the promises of `fetch` by their names.
+    // Lists the queue and walks it. The link, the source and the time are the call's own, as the port's fetch takes them;
+    // each function on the way states the promises of `fetch` by their names.
     fn send_next<L: Link<P, K>, D: DrawSource>(
         &mut self,
         link: &mut L,
@@ -103,6 +103,7 @@ impl<P: Ordered, V: Rating, K: Ordered> Fetcher<P, V, K> {
         set_out(&mut self.keys, sent, time);
         sent
     }
+
     // Sends the first due key that an allowed peer takes, and answers the message: the key is then out there. Without one,
     // the waiter says when to try again.
     pub fn fetch<L: Link<P, K>, D: DrawSource>(

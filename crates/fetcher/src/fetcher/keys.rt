@@ -23,7 +23,8 @@ fn retry_event<K: Ordered, P: Ordered>(row: Option<KeyRow<K, P>>, deadline: u64)
 }
 
 impl<P: Ordered, V: Rating, K: Ordered> Fetcher<P, V, K> {
-    // Adds peers to the targets of a live key. Answers whether the key is live.
+    // Adds peers to the targets of a live key. Answers whether the key is live. A key and a list and no struct, here and in
+    // the tables below: the two are what the call is given.
     pub fn add_targets(&mut self, key: K, peers: &[P]) -> bool
         ensures answer { result ≡ aim_answer K.Ordered.own key (fet_of self.old) }
         ensures state { fet_of self.new ≡ aim_step P.Ordered.own K.Ordered.own key peers.now (fet_of self.old) }

@@ -21,7 +21,7 @@ impl<P: Ordered, V: Rating, K: Ordered> Fetcher<P, V, K> {
     }
 
     // The key that is out under an id at a peer, with the time since its start. It is out until it is handed out under
-    // a slip or queued again.
+    // a slip or queued again. An id and a peer and no struct: a response comes with the two, as in the port.
     pub fn pop_response(&self, id: u64, peer: P, time: u64) -> Option<(K, u64)>
         ensures { result ≡ response_answer P.Ordered.own id peer time (fet_of self.now) }
     {
