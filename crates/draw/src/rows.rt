@@ -64,7 +64,7 @@ pub(crate) fn left_of(shares: &[Share]) -> Left
 }
 
 // The first row whose running sum exceeds `x`: what is left of `x` after the rows before it is less than its part. Not
-// by `position`: of a closure that changes what it captures, here what is left, a proof learns nothing.
+// by `position`: the clauses do not say what a closure that changes its captures leaves, here what is left.
 pub(crate) fn place_of(shares: &[Share], by: By, x: u64) -> usize
     requires { x < total by shares.now }
     ensures value { result ≡ reach by 0 shares.now x }

@@ -75,7 +75,7 @@ impl<'a> Selection<'a> {
     }
 }
 
-// Draws until no row is left, and lists the places. It stands apart from `order_of`, whose proof so has no part by hand.
+// Draws until no row is left, and lists the places. It stands apart from `order_of`, so that its proof has no part by hand.
 fn draw_all<D: DrawSource>(
     places: &mut Vec<usize>,
     shares: &mut [Share],

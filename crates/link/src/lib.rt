@@ -34,7 +34,7 @@ pub trait Link<P: Ordered, K: Ordered> {
 
     ghost latest: { Self → Option (Message P K) };
 
-    // A wait answers its time, any other word a pass; nothing changes.
+    // A wait answers its time, any other word a pass; nothing changes. A peer and a time: the form of the port, as below.
     fn check(&self, peer: P, time: u64) -> Result<Pass<P>, u64>
         ensures { Checks (word self.now peer time) peer time result };
 

@@ -168,6 +168,7 @@ fn words_of(heap: Global, text: &str) -> Result<Vec<u64>, Fault> {
     )
 }
 
+// The words of a source. Memory is for its list alone, here and where other text is parted.
 fn source_of(heap: Global, text: &str) -> Result<Words, Fault> {
     match text.split_once(':') {
         Some(("list", words)) => Ok(Words::List(words_of(heap, words)?)),

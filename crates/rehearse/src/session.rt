@@ -59,7 +59,7 @@ impl fmt::Display for Hall {
     }
 }
 
-// Obeys a call, and writes its answer to the block of its line.
+// Obeys a call, and writes its answer to the block of its line. The call is read and the block written: no value holds both.
 fn answer<L: Wired, R: Rating>(
     watch: &mut Watch<'_>,
     house: &mut House<L, R>,

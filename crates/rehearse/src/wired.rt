@@ -35,6 +35,7 @@ pub(crate) trait Wired: Show + Drop {
 
     type Key: Term;
 
+    // Memory and the line's words for a link, which are wanted together at the making alone.
     fn open(heap: Global, wire: Wire) -> Result<Self, Fault>;
 
     // What the link says of a peer: pass or wait.
@@ -43,7 +44,7 @@ pub(crate) trait Wired: Show + Drop {
     // Checks, and sends under the pass.
     fn send(&mut self, time: u64, message: Message<Self::Peer, Self::Key>) -> Reply;
 
-    // The owner sets the lane of a station.
+    // The owner sets the lane of a station: the two words of a line.
     fn set_lane(&mut self, station: Station, lane: Lane) -> Result<(), Fault>;
 }
 

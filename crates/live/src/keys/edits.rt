@@ -17,7 +17,8 @@ impl<K: Ordered, P: Ordered> LiveKeys<K, P> {
         self.table.get(key)
     }
 
-    // Puts a fresh key into the queue, due at a time. Answers whether there was room.
+    // Puts a fresh key into the queue, due at a time. Answers whether there was room. A key and a time, here and in the
+    // calls above: no row has them before the call.
     pub fn insert(&mut self, key: K, aimed: bool, time: u64) -> bool
         ensures answer { result ≡ fits K.Ordered.order key_of key (tab_of self.old.table) }
         ensures table { tab_of self.new.table ≡ put_in K.Ordered.order key_of (fresh_row key aimed time) (tab_of self.old.table) }

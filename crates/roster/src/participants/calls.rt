@@ -15,7 +15,7 @@ use tables::place;
 
 // Records an exchange in the row of a peer. Answers the row's place and its new weight, or nothing if there is none.
 // Kept as a form of the port: one row is found by order search and changed through `&mut`, and its rating is copied,
-// recorded and stored back.
+// recorded and stored back. A peer, a time and a length, here and in the calls above: they are what a response brings.
 #[tactic(auto, unfolding(crate::specs::Peers::rerated_in, crate::specs::Peers::new_weight), using(crate::proofs::Hefts::changed_set, tables::proofs::Halving::row_at_get_or))]
 fn record_row<P: Ordered, V: Rating>(
     rows: &mut [PeerRow<P, V>],
