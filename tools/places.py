@@ -36,6 +36,16 @@ def matches(texts, pattern, skip=None):
     return found
 
 
+def opening(piece, at):
+    """The parenthesis of the parameters, past those of the bounds."""
+    depth = 0
+    while piece[at] != "(" or depth:
+        if piece[at - 1] != "-":
+            depth += {"<": 1, ">": -1}.get(piece[at], 0)
+        at += 1
+    return at
+
+
 def functions(texts):
     """Each function: its file, its name, its parameters, and its text up to the next one."""
     out = []
@@ -43,7 +53,7 @@ def functions(texts):
         starts = [m for m in re.finditer(r"^\s*(?:pub(?:\(crate\))? )?fn (\w+)", text, re.M)]
         for m, after in zip(starts, starts[1:] + [None]):
             piece = text[m.start():after.start() if after else len(text)]
-            depth, begin = 0, piece.find("(", m.end() - m.start())
+            depth, begin = 0, opening(piece, m.end() - m.start())
             for end in range(begin, len(piece)):
                 depth += {"(": 1, ")": -1}.get(piece[end], 0)
                 if depth == 0:
