@@ -8,7 +8,7 @@ use kinds::Ordered;
 pub fn in_order<T: Ordered>(list: &[T]) -> bool
     ensures { result ≡ ordered T.Ordered.order list.now }
 {
-    list.is_sorted_by(|a, b| a < b)
+    list.is_sorted_by(|a, b| a.cmp(b).is_lt())
 }
 
 // Whether a list can become the rows of a table: in order, with no repeat, and no longer than the table.

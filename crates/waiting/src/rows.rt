@@ -54,13 +54,13 @@ pub fn rows_of<K: Ordered, S: Ordered>(rows: &[WaitRow<K, S>], key: K) -> &[Wait
         rows,
         |row|
             ensures { result ≡ below K.Ordered.own key row.now }
-        { row.pair.first < key },
+        { row.pair.first.cmp(&key).is_lt() },
     );
     let end = bound(
         rows,
         |row|
             ensures { result ≡ up_to K.Ordered.own key row.now }
-        { row.pair.first <= key },
+        { row.pair.first.cmp(&key).is_le() },
     );
     &rows[start..end.max(start)]
 }
