@@ -42,11 +42,18 @@ impl<K: Ordered, S: Ordered> Subscribers<K, S> {
         })
     }
 
+    // Whether a pair has a row: its subscriber waits, or left the key's running delivery.
+    pub fn has_pair(&self, key: K, subscriber: S) -> bool
+        ensures { result ≡ is_some (wait_row K.Ordered.own S.Ordered.own key subscriber (tab_of self.now.table).rows) }
+    {
+        self.row(key, subscriber).is_some()
+    }
+
     // How many new pairs an insert needs.
     pub fn count_new(&self, key: K, subscribers: &[S]) -> usize
         ensures { result ≡ new_of S.Ordered.order (λ x. is_some (wait_row K.Ordered.own S.Ordered.own key x (tab_of self.now.table).rows)) subscribers.now }
     {
-        count_new(subscribers, |s| self.row(key, *s).is_some())
+        count_new(subscribers, |s| self.has_pair(key, *s))
     }
 
     // A subscriber waits for a key; a delivered mark that its pair has stays.
