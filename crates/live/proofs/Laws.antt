@@ -3,8 +3,7 @@ use Rattle.std.proofs.Common.{◌≡◌, ℕ, ◌+◌, ◌<◌, ◌≤◌, Bool,
 use Rattle.std.specs.List.{AllByRecursion as All}
 use Rattle.kinds.specs.declared.ordered.Ordered.{Ghosts as Order}
 use Rattle.kinds.specs.Lex.{then_equal, number_same}
-use Rattle.std.specs.Cmp.{nat_cmp_total, bool_cmp_total, then_total, on_total}
-use Rattle.std.specs.Ordering.{bool_cmp}
+use Rattle.std.specs.Cmp.{nat_cmp_total, then_total, on_total}
 use Rattle.tables.proofs.Lawfuls.{lawful, pair_lawful}
 use Rattle.tables.specs.Rows.{Lawful, Ascending, In, lookup, put}
 use Rattle.tables.specs.Tables.{Tab, with_rows, fits, emptied}
@@ -20,18 +19,12 @@ use Rattle.live.specs.declared.queue.QueueRow.{QueueRow}
 use Rattle.live.specs.Queues.{by_turn, by_queue, turn_of, queue_at, queue_row, enqueued, queue_on}
 use Rattle.live.specs.Keys.{key_of}
 
-abbrev turn : Bool → ℕ → Turn
-turn r d = record { retried = r; deadline = d }
-
-flag_same : (x y : Bool) → bool_cmp x y ≡ Equal → x ≡ y
-flag_same true true h = refl
-flag_same true false h = cc
-flag_same false true h = cc
-flag_same false false h = refl
+abbrev turn : ℕ → ℕ → Turn
+turn r d = record { round = r; deadline = d }
 
 pub turn_lawful : Lawful by_turn
-turn_lawful = lawful (then_total (on_total (λ x. x.retried) bool_cmp_total) (on_total (λ x. x.deadline) nat_cmp_total))
-    (λ x y h. let t = then_equal _ _ h in let f = flag_same _ _ t.0 in let g = number_same _ _ t.1 in λ i. turn (f i) (g i))
+turn_lawful = lawful (then_total (on_total (λ x. x.round) nat_cmp_total) (on_total (λ x. x.deadline) nat_cmp_total))
+    (λ x y h. let t = then_equal _ _ h in let f = number_same _ _ t.0 in let g = number_same _ _ t.1 in λ i. turn (f i) (g i))
 
 pub queue_lawful : {K : Type 0} (k : Order K) → Lawful k.order → Lawful (by_queue k)
 queue_lawful k a = pair_lawful (record { order = by_turn }) k turn_lawful a

@@ -1,7 +1,7 @@
 -- The queue of the keys that wait to be asked for.
 use Rattle.std.specs.Prelude.{Bool, cond, List, [], ◌∷◌, Some, None, Option}
 use Rattle.std.specs.declared.cmp.Ordering.{Ordering}
-use Rattle.std.specs.Ordering.{is_lt, bool_cmp}
+use Rattle.std.specs.Ordering.{is_lt}
 use Rattle.kinds.specs.Order.{and_then, by_number}
 use Rattle.kinds.specs.declared.ordered.Ordered.{Ghosts as Order}
 use Rattle.kinds.specs.declared.pair.Pair.{Pair}
@@ -16,7 +16,7 @@ use Rattle.live.specs.declared.queue.QueueRow.{QueueRow}
 
 -- fresh keys before retried ones, then earlier deadlines
 abbrev pub by_turn : Turn → Turn → Ordering
-by_turn x y = and_then (bool_cmp x.retried y.retried) (by_number x.deadline y.deadline)
+by_turn x y = and_then (by_number x.round y.round) (by_number x.deadline y.deadline)
 
 -- then smaller keys
 abbrev pub by_queue : {K : Type 0} → Order K → Pair Turn K → Pair Turn K → Ordering
@@ -29,7 +29,7 @@ abbrev pub earlier : {K : Type 0} → Order K → QueueRow K → QueueRow K → 
 earlier k a b = is_lt (by_queue k (turn_of a) (turn_of b))
 
 abbrev pub queue_at : {K P : Type 0} → KeyRow K P → Stage P → Option (QueueRow K)
-queue_at r (Queued retried deadline) = Some (record { turn = record { retried = retried; deadline = deadline }; key = r.key; aimed = r.aimed; retries = r.retries })
+queue_at r (Queued retried deadline) = Some (record { turn = record { round = cond retried 1 0; deadline = deadline }; key = r.key; aimed = r.aimed; retries = r.retries })
 queue_at r (Out id peer start) = None
 queue_at r (Judged slip) = None
 

@@ -1,6 +1,5 @@
 // The queue: fresh keys before retried ones, then earlier deadlines, then smaller keys.
 ghost use Rattle.std.specs.Prelude.{◌≡◌, Some};
-ghost use Rattle.std.specs.Ordering.{bool_cmp};
 ghost use Rattle.kinds.specs.Order.{by_number, and_then};
 ghost use Rattle.tables.specs.Rows.{pair, by_pair};
 ghost use Rattle.tables.specs.Tables.{tab_of, emptied};
@@ -12,15 +11,16 @@ use crate::stage::Stage;
 use kinds::{Ordered, Pair};
 use tables::{Row, Table};
 
-// When a key's turn comes: a fresh one before a retried one, then by the deadline.
+// When a key's turn comes: by the round, which is 0 for a fresh key and 1 for a retried one, then by the deadline. The
+// round is a number and no flag: what comes after a turn may be asked of any.
 #[derive(Clone, Copy, PartialEq, Eq, PartialOrd, Ord)]
 pub struct Turn {
-    pub retried: bool,
+    pub round: u8,
     pub deadline: u64,
 }
 
 impl Ordered for Turn {
-    ghost order = { λ x y. and_then (bool_cmp x.retried y.retried) (by_number x.deadline y.deadline) };
+    ghost order = { λ x y. and_then (by_number x.round y.round) (by_number x.deadline y.deadline) };
 
     ghost compares = { Prim.search rules };
 
@@ -57,7 +57,10 @@ pub fn queue_row<K: Ordered, P: Copy>(row: &KeyRow<K, P>) -> Option<QueueRow<K>>
 {
     match row.stage {
         Stage::Queued { retried, deadline } => Some(QueueRow {
-            turn: Turn { retried, deadline },
+            turn: Turn {
+                round: if retried { 1 } else { 0 },
+                deadline,
+            },
             key: row.key,
             aimed: row.aimed,
             retries: row.retries,
@@ -70,7 +73,7 @@ pub fn queue_row<K: Ordered, P: Copy>(row: &KeyRow<K, P>) -> Option<QueueRow<K>>
 pub fn comes_before<K: Ordered>(a: &QueueRow<K>, b: &QueueRow<K>) -> bool
     ensures { result ≡ earlier K.Ordered.own a.now b.now }
 {
-    a.key() < b.key()
+    a.key().cmp(&b.key()).is_lt()
 }
 
 // The row of the queue that a key has, if it is queued after another.

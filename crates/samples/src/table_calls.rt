@@ -1,6 +1,6 @@
 // The tables on examples.
 use kinds::{Seat, Station};
-use live::{Event, LiveKeys};
+use live::{Event, LiveKeys, QueueRow, Turn};
 use roster::{Excluded, Participants};
 use score::{Rating, Score};
 use std::test::Fail;
@@ -126,6 +126,28 @@ fn queue_order(rt: HostRuntime) -> Result<(), Fail> {
     Ok(())
 }
 
+// What is queued after a turn may be asked of any round, also of one that no key has.
+#[test]
+fn after_any_round(rt: HostRuntime) -> Result<(), Fail> {
+    let Ok(mut keys) = LiveKeys::<Seat, Station>::new(rt.alloc(), 7, 8) else {
+        return Err(Fail::new("no keys"));
+    };
+    assert!(rt; keys.insert(seat(1), false, 5));
+    let mut last = QueueRow {
+        turn: Turn {
+            round: 0,
+            deadline: 5,
+        },
+        key: seat(0),
+        aimed: false,
+        retries: 0,
+    };
+    assert!(rt; keys.next_queued(last).is_some());
+    last.turn.round = 2;
+    assert!(rt; keys.next_queued(last).is_none());
+    Ok(())
+}
+
 // A delivered subscriber that left keeps its pair until the delivery ends.
 #[test]
 fn delivery(rt: HostRuntime) -> Result<(), Fail> {
@@ -143,6 +165,7 @@ fn delivery(rt: HostRuntime) -> Result<(), Fail> {
         subscriber: Station(4),
     });
     assert!(rt; !waiting.waits(seat(1), Station(4)));
+    assert!(rt; waiting.has_pair(seat(1), Station(4)));
     let Some(first) = waiting.delivered(seat(1), 0) else {
         return Err(Fail::new("no first"));
     };
@@ -151,6 +174,7 @@ fn delivery(rt: HostRuntime) -> Result<(), Fail> {
     assert!(rt; waiting.contains(seat(1)));
     assert!(rt; waiting.waits(seat(1), Station(9)));
     assert!(rt; !waiting.waits(seat(1), Station(5)));
+    assert!(rt; !waiting.has_pair(seat(1), Station(5)));
     assert!(rt; !waiting.contains(seat(2)));
     Ok(())
 }
