@@ -2,10 +2,10 @@
 use Rattle.std.specs.Prelude.{◌≡◌, ℕ, List, [], ◌∷◌, refl, nat_eq}
 use Rattle.std.specs.declared.cmp.Ordering.TheVariants.{Less, Equal, Greater}
 use Rattle.std.specs.declared.cmp.Ordering.{Ordering}
-use Rattle.std.proofs.Common.{sym, arith}
+use Rattle.std.proofs.Common.{sym, ap, arith}
 use Rattle.std.specs.Cmp.{nat_cmp_total, tied_itself, then_flip, both_tied}
-use Rattle.std.specs.Cmp.Lexicographic.{pointwise, nat_list_cmp_total}
-use Rattle.std.specs.Ordering.{ordering_reverse, is_eq}
+use Rattle.std.specs.Cmp.Lexicographic.{slice_cmp, pointwise, nat_list_cmp_total}
+use Rattle.std.specs.Ordering.{nat_cmp, ordering_then, ordering_reverse, is_eq}
 use Rattle.std.proofs.lemmas.Bool.Decides.{nat_tests}
 use Rattle.kinds.specs.Order.{by_number, by_bytes, and_then}
 
@@ -70,3 +70,13 @@ bytes_equal [] [] = refl
 bytes_equal [] (y ∷ ys) = refl
 bytes_equal (x ∷ xs) [] = refl
 bytes_equal (x ∷ xs) (y ∷ ys) = both_tied _ _ (by_number x y) (by_bytes xs ys) (number_equal x y) (bytes_equal xs ys)
+
+-- ---- the library's orders are these
+pub numbers_compared : (x y : ℕ) → nat_cmp x y ≡ by_number x y
+numbers_compared x y = refl
+
+pub then_is : (o p q : Ordering) → p ≡ q → ordering_then o p ≡ and_then o q
+then_is o p q e = ap (λ s. ordering_then o s) e
+
+pub bytes_compared : (xs ys : List ℕ) → slice_cmp nat_cmp xs ys ≡ by_bytes xs ys
+bytes_compared xs ys = refl
