@@ -14,10 +14,11 @@ pub struct Excluded<'a, P: Copy> {
 }
 
 impl<'a, P: Ordered> Excluded<'a, P> {
-    // Whether a peer is never asked.
+    // Whether a peer is never asked. It is asked for each row of a roster, so it is no call there.
+    #[inline(always)]
     pub fn contains(&self, peer: P) -> bool
         ensures { result ≡ is_out P.Ordered.own self.now.own (tab_of self.now.blocked.now).rows peer }
     {
-        self.own.is_some_and(|own| own == peer) || self.blocked.get(peer).is_some()
+        matches!(self.own, Some(own) if own == peer) || self.blocked.find(peer).is_ok()
     }
 }

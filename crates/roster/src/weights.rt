@@ -75,7 +75,8 @@ impl Shares {
         self.rows.push_reserved(share);
     }
 
-    // Weighs every row anew.
+    // Weighs every row anew. A call of its own, so that its loop has the registers.
+    #[inline(never)]
     pub(crate) fn weigh<P: Ordered, V: Rating>(
         &mut self,
         rows: &[PeerRow<P, V>],
