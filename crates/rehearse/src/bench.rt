@@ -18,38 +18,29 @@ const CALLS: [&str; 11] = [
     "retain",
 ];
 
-// A line with the time of its quickest round so far, in nanoseconds.
-#[derive(Clone, Copy)]
-struct Timed<'a> {
-    line: &'a str,
-    quickest: u64,
-}
-
 // Makes the calls of the script once, and keeps the quickest time of each line. Calls that are not there yet are passed
 // over.
-fn one_round(rt: &HostRuntime, lines: &mut [Timed<'_>]) -> anyhow::Result<()> {
+fn one_round(rt: &HostRuntime, text: &str, quickest: &mut [u64]) -> anyhow::Result<()> {
     let mut session = Session::new(rt, true);
-    for (i, timed) in lines.iter_mut().enumerate() {
-        match session.line(timed.line) {
+    for (i, (line, least)) in text.lines().zip(quickest.iter_mut()).enumerate() {
+        match session.line(line) {
             Ok(_) | Err(Fault::NotYet) => {}
             // Here the error counts lines from 0.
             Err(fault) => return Err(fault.at(i).into()),
         }
-        timed.quickest = timed.quickest.min(session.spent());
+        *least = (*least).min(session.spent());
     }
     Ok(())
 }
 
 // Prints the call, how often it came, and the mean of its times in nanoseconds.
-fn print_call(rt: &HostRuntime, lines: &[Timed<'_>], call: &str) -> anyhow::Result<()> {
-    let (count, total) = lines
-        .iter()
-        .filter(|timed| timed.line.split_whitespace().next() == Some(call) && timed.quickest > 0)
-        .fold((0u64, 0u64), |(count, total), timed| {
-            (
-                count.saturating_add(1),
-                total.saturating_add(timed.quickest),
-            )
+fn print_call(rt: &HostRuntime, text: &str, quickest: &[u64], call: &str) -> anyhow::Result<()> {
+    let (count, total) = text
+        .lines()
+        .zip(quickest.iter())
+        .filter(|(line, least)| line.split_whitespace().next() == Some(call) && **least > 0)
+        .fold((0u64, 0u64), |(count, total), (_, least)| {
+            (count.saturating_add(1), total.saturating_add(*least))
         });
     if let Some(mean) = total.checked_div(count) {
         println!(rt; "{call} {count} {mean}")?;
@@ -57,19 +48,14 @@ fn print_call(rt: &HostRuntime, lines: &[Timed<'_>], call: &str) -> anyhow::Resu
     Ok(())
 }
 
+// Only the times are kept beside the text: a list of the lines too would take three times the memory.
 pub(crate) fn bench(rt: &HostRuntime, text: &str) -> anyhow::Result<()> {
-    let mut lines: Vec<Timed<'_>> = text
-        .lines()
-        .map(|line| Timed {
-            line,
-            quickest: u64::MAX,
-        })
-        .collect(rt.alloc())?;
+    let mut quickest: Vec<u64> = text.lines().map(|_| u64::MAX).collect(rt.alloc())?;
     for _ in 0..ROUNDS {
-        one_round(rt, lines.as_mut_slice())?;
+        one_round(rt, text, quickest.as_mut_slice())?;
     }
     for call in CALLS {
-        print_call(rt, lines.as_slice(), call)?;
+        print_call(rt, text, quickest.as_slice(), call)?;
     }
     Ok(())
 }
