@@ -3,7 +3,7 @@ use crate::fault::{Fault, Refusal};
 use crate::source::Words;
 use crate::term::{number, number_or, parts};
 use std::alloc::Global;
-use std::collections::BTreeSet;
+use std::collections::HashSet;
 use std::fmt;
 use std::str::FromStr;
 
@@ -184,7 +184,7 @@ fn name_of<'a>(word: &'a str) -> &'a str {
 
 // Whether two words have the same name.
 fn repeated(heap: Global, words: &[&str]) -> Result<bool, Fault> {
-    let mut names = BTreeSet::new(heap);
+    let mut names = HashSet::new(heap);
     for word in words {
         if !names.insert(name_of(*word))? {
             return Ok(true);

@@ -177,10 +177,10 @@ impl fmt::Display for LaneLink {
     }
 }
 
-// The links to numbered stations.
+// The links to numbered stations. The lanes are in a box: they take 4 KiB, which each move of a house would copy.
 #[derive(Drop)]
 pub(crate) enum StationLink {
-    Lanes(LaneLink),
+    Lanes(Box<LaneLink>),
     Outbox(Outbox<Station, Seat>),
 }
 
@@ -200,7 +200,10 @@ impl Wired for StationLink {
 
     fn open(heap: Global, wire: Wire) -> Result<StationLink, Fault> {
         match wire {
-            Wire::Lane(spacing) => Ok(StationLink::Lanes(LaneLink::open(heap, spacing)?)),
+            Wire::Lane(spacing) => {
+                let lanes = LaneLink::open(heap, spacing)?;
+                Ok(StationLink::Lanes(Box::new(heap, lanes)?))
+            }
             Wire::Outbox(bytes) => Ok(StationLink::Outbox(Outbox::new(heap, bytes as usize)?)),
         }
     }
